@@ -1,0 +1,9 @@
+pub mod Named
+pub mod Sets
+pub mod Unions
+pub mod Standing
+pub mod Outcomes
+pub mod Powers
+pub mod WordLaws
+pub mod TrapLaws
+pub mod PoisonLaws

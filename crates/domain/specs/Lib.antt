@@ -1,0 +1,6 @@
+pub mod Model
+pub mod Names
+pub mod Faults
+pub mod Words
+pub mod Layers
+pub mod Examples

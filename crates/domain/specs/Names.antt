@@ -1,0 +1,59 @@
+-- The words that texts write for operations and marks. Assumes nothing.
+use mathlib.Core.Bool.{Bool, cond}
+use mathlib.Core.List.{List, [], _∷_}
+use Prim.Native.Nat.{ℕ}
+use lib.Chars.{codes}
+use Rattle.std.specs.shelf.Text.{sameBytes}
+use Rattle.std.specs.declared.option.Option.{Option}
+use Rattle.std.specs.declared.option.Option.the-variants.{Some, None}
+use Rattle.domain.specs.declared.marks.Marks.{Marks}
+use Rattle.domain.specs.declared.operation.Operation.{Operation}
+use Rattle.domain.specs.declared.operation.Operation.the-variants.{Add, Sub, Mul, Shl, Lshr, Ashr, Udiv, Urem, Sdiv, Srem, And, Or, Xor, Eq, Ne, Ult, Ule, Slt, Sle, Copy, Freeze, Select}
+
+-- two words of the same bytes
+unfoldable pub same-word : List ℕ → List ℕ → Bool
+same-word xs ys = sameBytes xs ys
+
+abbrev pub name-of : Operation → List ℕ
+name-of Add = codes "add"
+name-of Sub = codes "sub"
+name-of Mul = codes "mul"
+name-of Shl = codes "shl"
+name-of Lshr = codes "lshr"
+name-of Ashr = codes "ashr"
+name-of Udiv = codes "udiv"
+name-of Urem = codes "urem"
+name-of Sdiv = codes "sdiv"
+name-of Srem = codes "srem"
+name-of And = codes "and"
+name-of Or = codes "or"
+name-of Xor = codes "xor"
+name-of Eq = codes "eq"
+name-of Ne = codes "ne"
+name-of Ult = codes "ult"
+name-of Ule = codes "ule"
+name-of Slt = codes "slt"
+name-of Sle = codes "sle"
+name-of Copy = codes "copy"
+name-of Freeze = codes "freeze"
+name-of Select = codes "select"
+
+abbrev pub operations : List Operation
+operations = Add ∷ Sub ∷ Mul ∷ Shl ∷ Lshr ∷ Ashr ∷ Udiv ∷ Urem ∷ Sdiv ∷ Srem ∷ And ∷ Or ∷ Xor ∷ Eq ∷ Ne ∷ Ult ∷ Ule ∷ Slt ∷ Sle ∷ Copy ∷ Freeze ∷ Select ∷ []
+
+-- the operation of a list that a word names
+unfoldable pub named-in : List Operation → List ℕ → Option Operation
+named-in [] word = None
+named-in (op ∷ ops) word = cond (same-word word (name-of op)) (Some op) (named-in ops word)
+
+abbrev pub operation-named : List ℕ → Option Operation
+operation-named word = named-in operations word
+
+-- a mark is the set of it alone: nuw 1, nsw 2, exact 4, range 8
+abbrev pub mark-named : List ℕ → Option Marks
+mark-named word =
+    cond (same-word word (codes "nuw")) (Some (record { bits = 1 }))
+    (cond (same-word word (codes "nsw")) (Some (record { bits = 2 }))
+    (cond (same-word word (codes "exact")) (Some (record { bits = 4 }))
+    (cond (same-word word (codes "range")) (Some (record { bits = 8 }))
+    None)))
