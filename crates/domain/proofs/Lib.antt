@@ -4,6 +4,7 @@ pub mod Unions
 pub mod Standing
 pub mod Outcomes
 pub mod Powers
+pub mod Arithmetic
 pub mod WordLaws
 pub mod TrapLaws
 pub mod PoisonLaws

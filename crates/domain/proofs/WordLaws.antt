@@ -3,12 +3,12 @@ use mathlib.Core.Path.{_≡_, refl, ap, subst, _∙_}
 use mathlib.Core.Bool.{Bool, true, false, cond, not, _&&_, _||_}
 use mathlib.Core.Logic.{_⊎_, inl, inr, ⊎-elim}
 use Prim.Native.Nat.{ℕ, _/_, _%_, _^_, _<_, _≤_}
-use native.Mathlib.Nat.{mod-lt, mod-le, div-le-self}
+use native.Mathlib.Nat.{mod-le, div-le-self}
 use native.Mathlib.Omega.{arith}
 use lib.Dec.{T, ltb, eqb, leb}
 use lib.Bits.{and-lt, or-lt, xor-lt}
 use lib.Pow.{pow-pos}
-use lib.IntN.{ℤ, pos, negsuc, _+ℤ_, _-ℤ_, _*ℤ_}
+use lib.IntN.{pos, _+ℤ_, _-ℤ_, _*ℤ_}
 use lib.Signed.{ltZ, leZ, quotZ, remZ, shrZ}
 use Rattle.std.proofs.shelf.Tests.{and-parts, and-from, and-left, and-right, eqb-true, eq-eqb, ltb-true, lt-ltb, le-ltb, cond-false, cond-both}
 use Rattle.std.specs.declared.option.Option.the-variants.{Some, None}
@@ -21,6 +21,7 @@ use Rattle.domain.specs.Model.{Lawful, Outside, Within, outcome-refines}
 use Rattle.domain.specs.Words.{codes-of, signed, residue, least-by-minus-one, flag, result, breaks, is-code, words}
 use Rattle.domain.proofs.Sets.{within-self}
 use Rattle.domain.proofs.Powers.{few-codes, some-codes}
+use Rattle.domain.proofs.Arithmetic.{residue-code}
 use Rattle.domain.proofs.Outcomes.{holds, shown}
 
 -- an outcome is a trap or a code below a bound
@@ -38,11 +39,6 @@ below-unless n false o h = h
 below-flag : (w : ℕ) → 1 ≤ w → (s : Bool) → Below (codes-of w) (flag s)
 below-flag w h true = let n = some-codes w h in omega arith
 below-flag w h false = let n = some-codes w h in omega arith
-
--- a remainder is a code
-residue-code : (w : ℕ) (z : ℤ) → residue w z < codes-of w
-residue-code w (pos n) = mod-lt n (pow-pos w)
-residue-code w (negsuc n) = let p = pow-pos w in omega arith
 
 -- the outcomes of words are codes or traps
 result-code : (w : ℕ) → 1 ≤ w → (op : Operation) (a b : ℕ) → a < codes-of w → b < codes-of w → Below (codes-of w) (result w op a b)

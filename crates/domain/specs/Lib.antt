@@ -2,5 +2,6 @@ pub mod Model
 pub mod Names
 pub mod Faults
 pub mod Words
+pub mod Arithmetic
 pub mod Layers
 pub mod Examples

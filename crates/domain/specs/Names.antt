@@ -1,4 +1,5 @@
 -- The words that texts write for operations and marks. Assumes nothing.
+use mathlib.Core.Path.{_≡_}
 use mathlib.Core.Bool.{Bool, cond}
 use mathlib.Core.List.{List, [], _∷_}
 use Prim.Native.Nat.{ℕ}
@@ -48,6 +49,11 @@ named-in (op ∷ ops) word = cond (same-word word (name-of op)) (Some op) (named
 
 abbrev pub operation-named : List ℕ → Option Operation
 operation-named word = named-in operations word
+
+-- the word is the operation's name, or no operation has that name
+abbrev pub Names-operation : List ℕ → Option Operation → Type 0
+Names-operation word (Some op) = name-of op ≡ word
+Names-operation word None = (op : Operation) → name-of op ≡ word → ⊥
 
 -- a mark is the set of it alone: nuw 1, nsw 2, exact 4, range 8
 abbrev pub mark-named : List ℕ → Option Marks

@@ -1,7 +1,7 @@
 // The 22 operations and their names.
 ghost use mathlib.Core.Path.{_≡_};
 ghost use Rattle.std.specs.Orderings.{Decides};
-ghost use Rattle.domain.specs.Names.{name-of, operation-named};
+ghost use Rattle.domain.specs.Names.{name-of, operation-named, Names-operation};
 use crate::name::is_word;
 
 // The 19 operations on two codes that a domain computes, then copy, freeze and select.
@@ -99,7 +99,8 @@ impl Operation {
 
     // The operation that a word names.
     pub fn named(word: &[u8]) -> Option<Operation>
-        ensures { λ r. ⌜ r ≡ operation-named (now (word .entry)) ⌝ }
+        ensures value { λ r. ⌜ r ≡ operation-named (now (word .entry)) ⌝ }
+        ensures meaning { λ r. ⌜ Names-operation (now (word .entry)) r ⌝ }
     {
         for i in 0..OPERATIONS.len() {
             let op = OPERATIONS[i];

@@ -3,7 +3,7 @@ ghost use mathlib.Core.Path.{_≡_};
 ghost use mathlib.Core.Bool.{cond};
 ghost use lib.Dec.{ltb};
 ghost use Rattle.domain.specs.declared.Outcome.the-variants.{Code, Trap};
-ghost use Rattle.domain.specs.Layers.{poisoned, is-poison, is-trap, union-of, some-of, poison-broken, poison-traps};
+ghost use Rattle.domain.specs.Layers.{poisoned, is-poison, is-trap, union-of, some-of, poison-broken, poison-traps, Stands-for-all};
 use crate::Domain;
 use crate::Outcome;
 use crate::Truth;
@@ -20,7 +20,8 @@ pub struct Poison<D> {
 
 impl<D: Domain> Poison<D> {
     pub fn over(below: D, marks: Marks) -> Poison<D>
-        ensures { λ r. ⌜ r ≡ record { below = below; marks = marks } ⌝ }
+        ensures value { λ r. ⌜ r ≡ record { below = below; marks = marks } ⌝ }
+        ensures meaning { λ _. ⌜ Stands-for-all (D·Domain .model below) ⌝ }
     {
         Poison { below, marks }
     }

@@ -9,6 +9,7 @@ ghost use Rattle.std.specs.declared.result.Result.the-variants.{Ok, Err};
 ghost use Rattle.domain.specs.declared.fault.DomainFault.the-variants.{WrongWidth};
 ghost use Rattle.domain.specs.declared.operation.Operation.the-variants.{Shl, Lshr, Ashr, Udiv, Sdiv, Srem};
 ghost use Rattle.domain.specs.declared.Outcome.the-variants.{Code, Trap};
+ghost use Rattle.domain.specs.Arithmetic.{Exact};
 ghost use Rattle.domain.specs.Words.{codes-of, least-of, is-code, signed, residue, in-unsigned, in-signed, overflow, least-by-minus-one, flag, result, breaks, words};
 use crate::Domain;
 use crate::Outcome;
@@ -35,13 +36,14 @@ pub struct Words {
 
 impl Words {
     // Words of a width from 1 to 8; another width is refused.
-    pub fn new(width: u8) -> Result<Words, DomainFault>
-        ensures { λ r. ⌜ elim r [ Ok words ↦ words .width ≡ width | Err fault ↦ (fault ≡ WrongWidth) × (1 ≤ width → width ≤ 8 → ⊥) ] ⌝ }
+    pub fn new(width: u16) -> Result<Words, DomainFault>
+        ensures value { λ r. ⌜ elim r [ Ok words ↦ words .width ≡ width | Err fault ↦ (fault ≡ WrongWidth) × (1 ≤ width → width ≤ 8 → ⊥) ] ⌝ }
+        ensures meaning { λ _. ⌜ (1 ≤ width → Exact width) ⌝ }
     {
         if width < 1 || width > 8 {
             return Err(DomainFault::WrongWidth);
         }
-        Ok(Words { width })
+        Ok(Words { width: width as u8 })
     }
 
     // How many codes there are.
