@@ -1,4 +1,4 @@
--- The words that texts write for operations and marks. Assumes nothing.
+-- Operations and marks as texts write them. Assumes nothing.
 use mathlib.Core.Path.{_≡_}
 use mathlib.Core.Bool.{Bool, cond}
 use mathlib.Core.List.{List, [], _∷_}
@@ -41,6 +41,31 @@ name-of Select = codes "select"
 
 abbrev pub operations : List Operation
 operations = Add ∷ Sub ∷ Mul ∷ Shl ∷ Lshr ∷ Ashr ∷ Udiv ∷ Urem ∷ Sdiv ∷ Srem ∷ And ∷ Or ∷ Xor ∷ Eq ∷ Ne ∷ Ult ∷ Ule ∷ Slt ∷ Sle ∷ Copy ∷ Freeze ∷ Select ∷ []
+
+-- how many operands an operation takes: a domain computes those that take two
+abbrev pub operand-count : Operation → ℕ
+operand-count Add = 2
+operand-count Sub = 2
+operand-count Mul = 2
+operand-count Shl = 2
+operand-count Lshr = 2
+operand-count Ashr = 2
+operand-count Udiv = 2
+operand-count Urem = 2
+operand-count Sdiv = 2
+operand-count Srem = 2
+operand-count And = 2
+operand-count Or = 2
+operand-count Xor = 2
+operand-count Eq = 2
+operand-count Ne = 2
+operand-count Ult = 2
+operand-count Ule = 2
+operand-count Slt = 2
+operand-count Sle = 2
+operand-count Copy = 1
+operand-count Freeze = 1
+operand-count Select = 3
 
 -- the operation of a list that a word names
 unfoldable pub named-in : List Operation → List ℕ → Option Operation

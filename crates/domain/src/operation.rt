@@ -1,7 +1,7 @@
 // The 22 operations and their names.
 ghost use mathlib.Core.Path.{_≡_};
 ghost use Rattle.std.specs.Orderings.{Decides};
-ghost use Rattle.domain.specs.Names.{name-of, operation-named, Names-operation};
+ghost use Rattle.domain.specs.Names.{name-of, operand-count, operation-named, Names-operation};
 use crate::name::is_word;
 
 // The 19 operations on two codes that a domain computes, then copy, freeze and select.
@@ -94,6 +94,17 @@ impl Operation {
             Operation::Copy => "copy",
             Operation::Freeze => "freeze",
             Operation::Select => "select",
+        }
+    }
+
+    // How many operands it takes: a domain computes the operations that take two.
+    pub fn operand_count(self) -> u8
+        ensures { λ r. ⌜ r ≡ operand-count self ⌝ }
+    {
+        match self {
+            Operation::Copy | Operation::Freeze => 1,
+            Operation::Select => 3,
+            _ => 2,
         }
     }
 
