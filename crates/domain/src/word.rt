@@ -37,7 +37,7 @@ pub struct Words {
 impl Words {
     // Words of a width from 1 to 8; another width is refused.
     pub fn new(width: u16) -> Result<Words, DomainFault>
-        ensures value { λ r. ⌜ elim r [ Ok words ↦ words .width ≡ width | Err fault ↦ (fault ≡ WrongWidth) × (1 ≤ width → width ≤ 8 → ⊥) ] ⌝ }
+        ensures value { λ r. ⌜ elim r [ Ok words ↦ (words .width ≡ width) × (1 ≤ width) × (width ≤ 8) | Err fault ↦ (fault ≡ WrongWidth) × (1 ≤ width → width ≤ 8 → ⊥) ] ⌝ }
         ensures meaning { λ _. ⌜ (1 ≤ width → Exact width) ⌝ }
     {
         if width < 1 || width > 8 {

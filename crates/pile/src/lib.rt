@@ -55,7 +55,7 @@ impl<D: Domain> Layered<D> {
 
 // The pile of three layers, from the bottom up, over words of a width.
 pub fn build(width: u16, bottom: Layer, middle: Layer, top: Layer) -> Result<Pile, DomainFault>
-    ensures { λ r. ⌜ elim r [ Ok pile ↦ pile-model pile ≡ over (over (over (words width) bottom) middle) top | Err fault ↦ (fault ≡ WrongWidth) × (1 ≤ width → width ≤ 8 → ⊥) ] ⌝ }
+    ensures { λ r. ⌜ elim r [ Ok pile ↦ (pile-model pile ≡ over (over (over (words width) bottom) middle) top) × (1 ≤ width) × (width ≤ 8) | Err fault ↦ (fault ≡ WrongWidth) × (1 ≤ width → width ≤ 8 → ⊥) ] ⌝ }
 {
     let words = Words::new(width)?;
     Ok(Layered::over(Layered::over(Layered::over(words, bottom), middle), top))

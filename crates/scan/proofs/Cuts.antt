@@ -92,6 +92,9 @@ line-ends text rest n e z = sym (none rest z) ∙ sym (drop-all (n + 1) text (le
 pub line-goes-on : (text rest : Bytes) (n : ℕ) → rest ≡ drop n text → take (length rest - 1) (drop 1 rest) ≡ drop (n + 1) text
 line-goes-on text rest n e = take-rest rest 1 ∙ ap (drop 1) e ∙ drop-drop 1 n text
 
+pub rest-shorter : (text rest : Bytes) → rest ≡ after-line text → 0 < length text → length rest < length text
+rest-shorter text rest e h = let l = length-drop (until (separates LineFeeds) text + 1) text in let k = ap length e in omega arith
+
 pub lines-cut : (text line rest : Bytes) → line ≡ first-line text → rest ≡ after-line text → 0 < length text → lines text ≡ line ∷ lines rest
 lines-cut [] line rest el er h = absurd (omega arith)
 lines-cut (b ∷ bs) line rest el er h =

@@ -58,6 +58,7 @@ pub fn split_line(text: &[u8]) -> (&[u8], &[u8])
     ensures line { λ r. ⌜ now (r .0) ≡ first-line (now (text .entry)) ⌝ }
     ensures rest { λ r. ⌜ now (r .1) ≡ after-line (now (text .entry)) ⌝ }
     ensures meaning { λ r. ⌜ (0 < length (now (text .entry)) → lines (now (text .entry)) ≡ now (r .0) ∷ lines (now (r .1))) ⌝ }
+    ensures shorter { λ r. ⌜ (0 < length (now (text .entry)) → length (now (r .1)) < length (now (text .entry))) ⌝ }
 {
     let n = Separators::LineFeeds.until(text);
     let (line, rest) = text.split_at(n);

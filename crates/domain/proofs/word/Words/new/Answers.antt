@@ -1,5 +1,4 @@
 use borrow.Author.Needs.{needs}
-use mathlib.Core.Path.{refl}
 use Rattle.domain.proofs.Arithmetic.{words-exact}
 use Rattle.domain.proofs.word.Words.new.Needs as need
 
@@ -7,4 +6,4 @@ pub returns-then-width-lt1 : need.returns-then-width-lt1
 returns-then-width-lt1 c = record { value = search needs; meaning = words-exact (c .args .width) }
 
 pub returns : need.returns
-returns c = record { value = refl; meaning = words-exact (c .args .width) }
+returns c = record { value = search needs; meaning = words-exact (c .args .width) }
