@@ -356,10 +356,10 @@ fn urem(a: u16, b: u16) -> Outcome
     }
 }
 
-fn flag(test: bool) -> Outcome
-    ensures { λ r. ⌜ r ≡ flag test ⌝ }
+fn flag(holds: bool) -> Outcome
+    ensures { λ r. ⌜ r ≡ flag holds ⌝ }
 {
-    if test {
+    if holds {
         Outcome::Code(1)
     } else {
         Outcome::Code(0)
