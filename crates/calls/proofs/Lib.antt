@@ -1,0 +1,6 @@
+pub mod Slots
+pub mod Calls
+pub mod Promise
+pub mod Entries
+pub mod Samples
+pub mod Refusals

@@ -1,0 +1,4 @@
+pub mod Bench
+pub mod Histories
+pub mod States
+pub mod Refusals

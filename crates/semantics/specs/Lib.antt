@@ -1,0 +1,6 @@
+pub mod Programs
+pub mod Operations
+pub mod Rules
+pub mod Fitting
+pub mod Cases
+pub mod Changes

@@ -1,0 +1,11 @@
+pub mod Lines
+pub mod Words
+pub mod Forms
+pub mod Faults
+pub mod Instructions
+pub mod RuleTexts
+pub mod ProgramTexts
+pub mod Neat
+pub mod Accepted
+pub mod Writing
+pub mod Refused
