@@ -2,5 +2,4 @@ pub mod Slots
 pub mod Calls
 pub mod Promise
 pub mod Entries
-pub mod Samples
 pub mod Refusals

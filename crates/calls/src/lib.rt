@@ -2,6 +2,7 @@
 ghost use Rattle.calls.specs.States.{Starts-proper, Stays-proper, Reached-proper};
 ghost use Rattle.calls.specs.Refusals.{Refusals};
 ghost use Rattle.calls.specs.Histories.{Kept, Enters-exactly, One-more};
+ghost use Rattle.calls.specs.Examples.{Worked};
 use domain::Domain;
 
 // In every state that calls lead to, each slot and each record is in one place, and every rule and program is proper.
@@ -21,4 +22,9 @@ pub fn histories_keep<D: Domain>(domain: &D)
     ensures kept { λ _. ⌜ Kept (D·Domain .model (now (domain .entry))) ⌝ }
     ensures enters { λ _. ⌜ Enters-exactly (D·Domain .model (now (domain .entry))) ⌝ }
     ensures goes { λ _. ⌜ One-more (D·Domain .model (now (domain .entry))) ⌝ }
+{}
+
+// The worked examples at width 4.
+pub fn examples_hold()
+    ensures { λ _. ⌜ Worked ⌝ }
 {}

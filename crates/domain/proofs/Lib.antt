@@ -8,3 +8,4 @@ pub mod Arithmetic
 pub mod WordLaws
 pub mod TrapLaws
 pub mod PoisonLaws
+pub mod Examples

@@ -35,4 +35,3 @@ pub mod Changes
 pub mod Passes
 pub mod Behind
 pub mod Room
-pub mod Mistakes

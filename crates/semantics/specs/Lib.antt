@@ -4,3 +4,4 @@ pub mod Rules
 pub mod Fitting
 pub mod Cases
 pub mod Changes
+pub mod Samples

@@ -4,6 +4,7 @@ ghost use Rattle.semantics.specs.Rules.{Contextual, Stays-formed, Convicted};
 ghost use Rattle.semantics.specs.Fitting.{Fitting-exact};
 ghost use Rattle.semantics.specs.Cases.{Checking-exact};
 ghost use Rattle.semantics.specs.Changes.{Pass-meets, Room-exact};
+ghost use Rattle.semantics.specs.Samples.{Samples};
 use domain::Domain;
 use domain::marks::Marks;
 use domain::operation::Operation;
@@ -42,4 +43,9 @@ pub fn searches_exact<D: Domain>(domain: &D)
 pub fn passes_meet<D: Domain>(domain: &D)
     ensures meets { λ _. ⌜ Pass-meets (D·Domain .model (now (domain .entry))) ⌝ }
     ensures room { λ _. ⌜ Room-exact (D·Domain .model (now (domain .entry))) ⌝ }
+{}
+
+// The definitions at work on the mistakes that tempt: one choice list for both sides, two freezes for one, a variable on what is removed.
+pub fn samples_hold()
+    ensures { λ _. ⌜ Samples ⌝ }
 {}
