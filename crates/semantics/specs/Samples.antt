@@ -1,21 +1,23 @@
 -- The definitions at work, over the house pile of width 2: the mistakes that tempt, and each refusal of a rewriting. Assumes nothing.
 use mathlib.Core.Path.{_≡_}
+use mathlib.Core.Bool.{true}
 use mathlib.Core.List.{List, [], _∷_}
 use Prim.Native.Nat.{ℕ}
 use lib.ListN.{replicate}
 use Rattle.std.specs.declared.option.Option.the-variants.{Some, None}
 use Rattle.domain.specs.declared.operation.Operation.{Operation}
 use Rattle.domain.specs.declared.operation.Operation.the-variants.{Add, Sub, Copy, Freeze}
+use Rattle.domain.specs.declared.Outcome.the-variants.{Code}
 use Rattle.domain.specs.Model.{Model}
 use Rattle.domain.specs.Words.{words}
 use Rattle.domain.specs.Layers.{poisoned}
 use Rattle.semantics.specs.declared.Operand.{Operand}
 use Rattle.semantics.specs.declared.Operand.the-variants.{Input, Record, Constant}
 use Rattle.semantics.specs.declared.Instruction.{Instruction}
-use Rattle.semantics.specs.Programs.{Program}
-use Rattle.semantics.specs.Rules.{Rule, numbered}
+use Rattle.semantics.specs.Programs.{Program, outcome, all}
+use Rattle.semantics.specs.Rules.{Rule, numbered, target-of}
 use Rattle.semantics.specs.Fitting.{fit, unfit}
-use Rattle.semantics.specs.Cases.{first-refuting, case-number}
+use Rattle.semantics.specs.Cases.{first-refuting, case-number, outcome-test, settled-codes}
 use Rattle.semantics.specs.Changes.{freed, unchanged, rewrite-at}
 
 -- codes 0 to 3, and poison, which is 4
@@ -56,6 +58,18 @@ joined = record {
   target = freeze (Input 0) ∷ plain Sub (Record 1) (Record 1) ∷ [];
 }
 
+-- the difference of two freezes turned round, with two new freezes
+abbrev pub swapped : Rule
+swapped = record {
+  variables = 1;
+  source = freeze (Input 0) ∷ freeze (Input 0) ∷ plain Sub (Record 1) (Record 2) ∷ [];
+  target = freeze (Input 0) ∷ freeze (Input 0) ∷ plain Sub (Record 2) (Record 1) ∷ [];
+}
+
+-- a difference of one freeze with itself, which is always 0
+abbrev pub difference : Program
+difference = program 1 (freeze (Input 0) ∷ plain Sub (Record 1) (Record 1) ∷ []) 2
+
 -- -y + x turned into x - y
 abbrev pub negated : Rule
 negated = record {
@@ -77,8 +91,11 @@ pub record Samples : Type 0 where
   pub may-join : first-refuting house2 joined ≡ None
   -- 5 codes, and 4 choices for each of three freezes
   pub counted : case-number house2 split ≡ 320
-  -- two source freezes do not match one freeze: 17
-  pub one-freeze : fit (program 1 (freeze (Input 0) ∷ plain Sub (Record 1) (Record 1) ∷ []) 2) joined 2 ≡ unfit 17
+  -- a sound rule whose two source freezes must not match one freeze (17): its target could then give 1 at poison, where the program gives 0
+  pub swap-sound : first-refuting house2 swapped ≡ None
+  pub one-freeze : fit difference swapped 2 ≡ unfit 17
+  pub swap-gives : outcome house2 (target-of swapped) (4 ∷ []) (0 ∷ 1 ∷ []) ≡ Code 1
+  pub always-zero : all (λ c. outcome-test house2 (outcome house2 difference (4 ∷ []) (c ∷ [])) (Code 0)) (settled-codes house2) ≡ true
   -- a variable does not take a removed instruction: 17
   pub on-removed : fit (program 1 (plain Sub (Constant 0) (Input 0) ∷ plain Add (Record 1) (Record 1) ∷ []) 2) negated 2 ≡ unfit 17
   -- a source name does not meet two instructions: 16
