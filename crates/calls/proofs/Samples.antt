@@ -11,7 +11,7 @@ use Rattle.domain.specs.Layers.{union, any}
 use Rattle.domain.specs.Examples.{house}
 use Rattle.semantics.specs.declared.Operand.the-variants.{Input, Record}
 use Rattle.semantics.specs.Cases.{from}
-use Rattle.text.specs.Lines.{Bytes}
+use Rattle.scan.specs.Pieces.{Bytes}
 use Rattle.text.specs.Faults.{fault}
 use Rattle.text.specs.Instructions.{made}
 use Rattle.calls.specs.Bench.{Call, Answer, drafted, evaluated, refuted}

@@ -21,7 +21,7 @@ use Rattle.domain.specs.Model.{Model}
 use Rattle.semantics.specs.Programs.{Kind, binary, copying, freezing, selecting, kind, All, reads-of, reads}
 use Rattle.semantics.specs.Rules.{reads-variable, variable-in}
 use Rattle.semantics.proofs.Members.{holds}
-use Rattle.text.specs.Lines.{Bytes}
+use Rattle.scan.specs.Pieces.{Bytes}
 use Rattle.text.specs.Words.{Argument, a-name, a-number, a-code, any}
 use Rattle.semantics.specs.Operations.{operands-of, operand-count, facts}
 use Rattle.text.specs.Forms.{Written}

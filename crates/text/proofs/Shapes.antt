@@ -9,7 +9,7 @@ use Rattle.std.proofs.shelf.Tests.{eqb-true}
 use Rattle.std.specs.declared.option.Option.{Option}
 use Rattle.std.specs.declared.option.Option.the-variants.{Some, None}
 use Rattle.domain.specs.declared.operation.Operation.{Operation}
-use Rattle.text.specs.Lines.{Bytes}
+use Rattle.scan.specs.Pieces.{Bytes}
 use Rattle.domain.specs.Names.{same-word, operation-named}
 use Rattle.text.specs.Words.{only-if, and-then, each, plain, name, argument}
 use Rattle.semantics.specs.Operations.{operand-count}

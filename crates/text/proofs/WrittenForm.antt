@@ -4,7 +4,7 @@ use mathlib.Core.Bool.{Bool, true, false, cond}
 use mathlib.Core.List.{List, [], _∷_, _++_, map}
 use Prim.Native.Nat.{ℕ, suc, _≤_, _<_}
 use native.Mathlib.Omega.{arith}
-use lib.Dec.{eqb, leb}
+use lib.Dec.{eqb, ltb}
 use lib.IntN.{pos}
 use lib.ListN.{length, length-map, length-append}
 use Rattle.std.proofs.shelf.Tests.{and-right, eq-eqb}
@@ -14,10 +14,11 @@ use Rattle.semantics.specs.declared.Operand.{Operand}
 use Rattle.semantics.specs.declared.Operand.the-variants.{Input, Record, Constant}
 use Rattle.domain.specs.declared.operation.Operation.{Operation}
 use Rattle.semantics.specs.declared.Instruction.{Instruction}
-use Rattle.semantics.specs.Programs.{Kind, binary, copying, freezing, selecting, kind, All, reads-of, reads, all}
+use Rattle.semantics.specs.Programs.{Kind, binary, copying, freezing, selecting, kind, All, reads-of, reads}
 use Rattle.semantics.specs.Cases.{keep}
-use Rattle.text.specs.Lines.{Bytes}
-use Rattle.text.specs.Words.{Argument, a-name, a-number, a-code, only-if, and-then, or-else, each, digit, name, digits, worth, constant-argument, argument}
+use Rattle.scan.specs.Pieces.{Bytes}
+use Rattle.scan.specs.Numbers.{all-digits, digits, worth}
+use Rattle.text.specs.Words.{Argument, a-name, a-number, a-code, only-if, and-then, or-else, each, name, constant-argument, argument}
 use Rattle.domain.specs.Names.{operation-named, name-of, same-word}
 use Rattle.semantics.specs.Operations.{facts, operands-of, operand-count}
 use Rattle.text.specs.Forms.{Written, instruction-line, mark-before, leading-marks, not-a-mark, behind-marks, arguments, written, form, mark}
@@ -75,7 +76,7 @@ module _ (f : ℕ → Bytes) (total : ℕ) (naming : Naming f total) where
   reads-argument (Input k) s = ap (λ x. or-else (and-then x (λ n. Some (a-name n))) (constant-argument (operand-word f (Input k)))) (name-word (suc k) (omega arith) 105 refl)
   reads-argument (Record r) s = ap (λ x. or-else (and-then x (λ n. Some (a-name n))) (constant-argument (operand-word f (Record r)))) (naming .reads r s)
   reads-argument (Constant c) s =
-      ap (λ b. or-else (and-then (only-if b (worth 0 (35 ∷ decimal c))) (λ v. Some (a-number (pos v)))) (and-then (digits (decimal c)) (λ v. Some (a-code v)))) (and-right (leb 1 (suc (length (decimal c)))) (all digit (35 ∷ decimal c)) refl)
+      ap (λ b. or-else (and-then (cond b (Some (worth 0 (35 ∷ decimal c))) None) (λ v. Some (a-number (pos v)))) (and-then (digits (decimal c)) (λ v. Some (a-code v)))) (and-right (ltb 0 (suc (length (decimal c)))) (all-digits (35 ∷ decimal c)) refl)
       ∙ ap (λ x. and-then x (λ v. Some (a-code v))) (reads-decimal c (omega arith))
 
   reads-arguments : (os : List Operand) → All (Small total) os → each argument (map (operand-word f) os) ≡ Some (map (argument-of f) os)

@@ -8,7 +8,7 @@ use lib.ListN.{length}
 use Rattle.std.specs.declared.option.Option.{Option}
 use Rattle.std.specs.declared.option.Option.the-variants.{Some, None}
 use Rattle.domain.specs.declared.operation.Operation.{Operation}
-use Rattle.text.specs.Lines.{Bytes}
+use Rattle.scan.specs.Pieces.{Bytes}
 use Rattle.domain.specs.declared.marks.Marks.{Marks}
 use Rattle.domain.specs.Names.{same-word, operation-named, mark-named}
 use Rattle.semantics.specs.Operations.{operand-count}
