@@ -12,7 +12,7 @@ use Rattle.semantics.specs.Changes.{Loaded, Changed, changed, unchanged, rewrit
 use Rattle.semantics.proofs.Search.{checking-exact}
 use Rattle.semantics.proofs.Loading.{load-proper}
 use Rattle.semantics.proofs.Passes.{Changes, rewrite-changes, visits-follow}
-use Rattle.text.specs.Lines.{Bytes}
+use Rattle.scan.specs.Pieces.{Bytes}
 use Rattle.text.specs.Faults.{Read, accepted}
 use Rattle.text.specs.RuleTexts.{read-rule}
 use Rattle.text.specs.ProgramTexts.{read-program}

@@ -10,7 +10,7 @@ use Rattle.semantics.specs.Programs.{Program, Evaluated, unevaluated, evaluatio
 use Rattle.semantics.specs.Rules.{Rule}
 use Rattle.semantics.specs.Cases.{Case, first-refuting}
 use Rattle.semantics.specs.Changes.{Loaded, Changed, changed, unchanged, rewrite-at}
-use Rattle.text.specs.Lines.{Bytes}
+use Rattle.scan.specs.Pieces.{Bytes}
 use Rattle.text.specs.Faults.{Fault, fault, layer-of, Read, accepted}
 use Rattle.text.specs.RuleTexts.{read-rule}
 use Rattle.text.specs.ProgramTexts.{read-program}

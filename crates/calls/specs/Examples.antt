@@ -15,7 +15,7 @@ use Rattle.semantics.specs.declared.Instruction.{Instruction}
 use Rattle.semantics.specs.Programs.{value, nothing-yet, step}
 use Rattle.semantics.specs.Cases.{from}
 use Rattle.semantics.specs.Changes.{Loaded}
-use Rattle.text.specs.Lines.{Bytes}
+use Rattle.scan.specs.Pieces.{Bytes}
 use Rattle.text.specs.Faults.{fault}
 use Rattle.text.specs.Instructions.{made}
 use Rattle.calls.specs.Bench.{Call, Answer, drafted, evaluated, refuted}

@@ -4,6 +4,7 @@ use mathlib.Core.List.{List, [], _∷_}
 use Prim.Native.Nat.{ℕ, _+_, _-_, _*_, min}
 use lib.Dec.{leb, ltb}
 use lib.ListN.{length}
+use Rattle.std.specs.Options.{mapped}
 use Rattle.std.specs.declared.option.Option.{Option}
 use Rattle.std.specs.declared.option.Option.the-variants.{Some, None}
 
@@ -19,6 +20,10 @@ abbrev pub worth : ℕ → List ℕ → ℕ
 worth v [] = v
 worth v (d ∷ ds) = worth (v * 10 + (d - 48)) ds
 
--- one or more digits, of any length, by what they are worth; above 65,535 it is told only that it is more
+-- one or more digits, of any length, by what they are worth
+abbrev pub digits : List ℕ → Option ℕ
+digits w = cond (ltb 0 (length w) && all-digits w) (Some (worth 0 w)) None
+
+-- above 65,535 it is told only that it is more
 abbrev pub decimal-of : List ℕ → Option ℕ
-decimal-of w = cond (ltb 0 (length w) && all-digits w) (Some (min (worth 0 w) 65536)) None
+decimal-of w = mapped (λ n. min n 65536) (digits w)

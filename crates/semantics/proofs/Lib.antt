@@ -35,3 +35,4 @@ pub mod Changes
 pub mod Passes
 pub mod Behind
 pub mod Room
+pub mod Counts

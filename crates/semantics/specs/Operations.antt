@@ -1,19 +1,8 @@
--- The facts on the 22 operations: how many operands each takes, and which marks may stand on it. Assumes nothing.
+-- Which marks may stand on each of the 22 operations, and which it bears unwritten. Assumes nothing.
 use mathlib.Core.List.{List, [], _∷_}
 use Prim.Native.Nat.{ℕ}
 use Rattle.domain.specs.declared.operation.Operation.{Operation}
 use Rattle.domain.specs.declared.operation.Operation.the-variants.{Add, Sub, Mul, Shl, Lshr, Ashr, Udiv, Urem, Sdiv, Srem, And, Or, Xor, Eq, Ne, Ult, Ule, Slt, Sle, Copy, Freeze, Select}
-use Rattle.semantics.specs.Programs.{Kind, binary, copying, freezing, selecting, kind}
-
-abbrev pub operands-of : Kind → ℕ
-operands-of binary = 2
-operands-of copying = 1
-operands-of freezing = 1
-operands-of selecting = 3
-
--- how many operands an operation takes
-abbrev pub operand-count : Operation → ℕ
-operand-count op = operands-of (kind op)
 
 -- the marks that may be written on an operation, and the set that it bears unwritten: nuw 1, nsw 2, exact 4, range 8
 pub record Facts : Type 0 where

@@ -11,7 +11,7 @@ use Rattle.std.proofs.shelf.Tests.{or-parts}
 use Rattle.std.specs.declared.option.Option.{Option}
 use Rattle.std.specs.declared.option.Option.the-variants.{Some, None}
 use Rattle.semantics.proofs.Members.{same?}
-use Rattle.text.specs.Lines.{Bytes}
+use Rattle.scan.specs.Pieces.{Bytes}
 use Rattle.domain.specs.Names.{same-word}
 use Rattle.text.specs.Words.{Argument, a-name, a-number, a-code}
 use Rattle.text.specs.Instructions.{placed-at, place, among, learn, learnt}

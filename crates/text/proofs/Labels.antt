@@ -16,7 +16,7 @@ use Rattle.semantics.specs.Programs.{Placed, All, reads, records, Readable, Ord
 use Rattle.semantics.specs.Rules.{numbered}
 use Rattle.semantics.proofs.Members.{In, in-cases, all-weaker}
 use Rattle.semantics.specs.Cases.{from}
-use Rattle.text.specs.Lines.{Bytes}
+use Rattle.scan.specs.Pieces.{Bytes}
 use Rattle.text.specs.Words.{and-then, each, name}
 use Rattle.text.specs.Instructions.{Named, names-of, bodies}
 use Rattle.text.specs.ProgramTexts.{twice}

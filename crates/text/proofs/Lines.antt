@@ -21,9 +21,11 @@ use Rattle.domain.specs.Model.{Model}
 use Rattle.semantics.specs.Programs.{Kind, binary, copying, freezing, selecting, kind, All, reads-of, reads}
 use Rattle.semantics.specs.Rules.{reads-variable, variable-in}
 use Rattle.semantics.proofs.Members.{holds}
-use Rattle.text.specs.Lines.{Bytes}
+use Rattle.scan.specs.Pieces.{Bytes}
 use Rattle.text.specs.Words.{Argument, a-name, a-number, a-code, any}
-use Rattle.semantics.specs.Operations.{operands-of, operand-count, facts}
+use Rattle.domain.specs.Names.{operand-count}
+use Rattle.semantics.specs.Operations.{facts}
+use Rattle.semantics.proofs.Counts.{reads-count}
 use Rattle.text.specs.Forms.{Written}
 use Rattle.text.specs.Instructions.{Named, Names, names-of, bodies, place, among, known, constant, named, operand, sum, made, instruction, outside, unreadable, bad-marks, refuses, unsettled, instruction-fault, entered}
 use Rattle.text.proofs.Tests.{not-fails, none-first}
@@ -31,7 +33,7 @@ use Rattle.text.proofs.Found.{place-below, not-placed, Names-variable, Some-of
 use Rattle.text.proofs.Fine.{Okay, Fine, fine-push}
 
 -- an operation's operands are what it reads
-reads-made-of : (k : Kind) (op : Operation) (marks : ℕ) (os : List Operand) → length os ≡ operands-of k → reads-of k (made op marks os) ≡ os
+reads-made-of : (k : Kind) (op : Operation) (marks : ℕ) (os : List Operand) → length os ≡ length (reads-of k (made op marks os)) → reads-of k (made op marks os) ≡ os
 reads-made-of binary op marks (a ∷ b ∷ []) e = refl
 reads-made-of binary op marks [] e = absurd (omega arith)
 reads-made-of binary op marks (a ∷ []) e = absurd (omega arith)
@@ -49,7 +51,7 @@ reads-made-of selecting op marks (a ∷ b ∷ []) e = absurd (omega arith)
 reads-made-of selecting op marks (a ∷ b ∷ c ∷ d ∷ os) e = absurd (omega arith)
 
 pub reads-made : (op : Operation) (marks : ℕ) (os : List Operand) → length os ≡ operand-count op → reads (made op marks os) ≡ os
-reads-made op marks os e = reads-made-of (kind op) op marks os e
+reads-made op marks os e = reads-made-of (kind op) op marks os (e ∙ sym (reads-count (made op marks os)))
 
 -- a written line with as many operands as its operation takes
 abbrev pub Counted : Written → Type 0

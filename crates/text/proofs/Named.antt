@@ -1,58 +1,66 @@
 -- Decimal numbers, names and constants as they are written, and read back. Assumes nothing.
 use mathlib.Core.Path.{_≡_, refl, sym, ap, _∙_}
-use mathlib.Core.Bool.{true, false, not, _||_}
+use mathlib.Core.Bool.{true, false, cond, not, _&&_, _||_}
 use mathlib.Core.List.{[], _∷_, map}
 use mathlib.Core.Logic.{⊎-elim}
 use Prim.Native.Nat.{ℕ, zero, suc, _+_, _-_, _^_, _≤_, _<_}
 use native.Mathlib.Omega.{arith}
-use lib.Dec.{eqb, leb}
+use lib.Dec.{eqb, leb, ltb}
 use lib.ListN.{length}
 use borrow.Author.Needs.{needs}
-use Rattle.std.proofs.shelf.Tests.{and-parts, and-from, or-right, or-from, leb-true, le-leb, ne-eqb, eqb-true, not-from-false, false≢true}
+use Rattle.std.proofs.shelf.Tests.{and-parts, and-from, or-right, or-from, leb-true, le-leb, lt-ltb, ne-eqb, eqb-true, not-from-false, false≢true}
 use Rattle.std.proofs.shelf.Numerals.{Numerals, numerals-by-fold}
 use Rattle.std.proofs.shelf.Decimals.{digits-decimal, value-decimal, length-decimal-le, decimal-some, same-from-decimal}
 use Rattle.std.specs.Written.{decimal}
-use Rattle.std.specs.declared.option.Option.the-variants.{Some}
+use Rattle.std.specs.declared.option.Option.the-variants.{Some, None}
 use Rattle.semantics.specs.Cases.{from}
-use Rattle.text.specs.Lines.{Bytes, separates}
+use Rattle.scan.specs.declared.Separators.the-variants.{LineFeeds, SpacesAndCommas}
+use Rattle.scan.specs.Pieces.{Bytes, separates}
+use Rattle.scan.specs.Numbers.{digit, all-digits, worth, digits}
 use Rattle.domain.specs.Names.{same-word}
 use Rattle.semantics.specs.Programs.{all}
-use Rattle.text.specs.Words.{only-if, digit, letter, plain, name, worth, digits}
+use Rattle.text.specs.Words.{only-if, letter, plain, name}
 use Rattle.text.specs.Instructions.{placed-at, place, among}
 use Rattle.text.specs.Writing.{input-name, record-name, side-name}
 use Rattle.text.proofs.Found.{same-itself}
 use Rattle.semantics.proofs.Members.{holds, fails, same?}
 use Rattle.text.proofs.Spaced.{solid, Good, all-by}
 
-own : Numerals (λ ds. all digit ds ≡ true) (worth 0)
+own : Numerals (λ ds. all-digits ds ≡ true) (worth 0)
 own = numerals-by-fold _ (search needs) worth (search needs)
+
+each-digit : (w : Bytes) → all-digits w ≡ all digit w
+each-digit [] = refl
+each-digit (b ∷ w) = ap (λ t. digit b && t) (each-digit w)
 
 -- numbers that are written are below 10^5
 module _ (n : ℕ) (small : n < 100000) where
   long : n < 2 ^ 64
   long = omega arith
 
-  all-digits : all digit (decimal n) ≡ true
-  all-digits = digits-decimal own n long
+  written-digits : all-digits (decimal n) ≡ true
+  written-digits = digits-decimal own n long
 
   pub reads-decimal : digits (decimal n) ≡ Some n
   reads-decimal =
       let some = decimal-some n long in
-      ap (λ b. only-if b (worth 0 (decimal n))) (and-from (leb 1 (length (decimal n))) (all digit (decimal n)) (le-leb 1 (length (decimal n)) (omega arith)) all-digits) ∙ ap Some (value-decimal own n long)
+      ap (λ b. cond b (Some (worth 0 (decimal n))) None) (and-from (ltb 0 (length (decimal n))) (all-digits (decimal n)) (lt-ltb 0 (length (decimal n)) (omega arith)) written-digits) ∙ ap Some (value-decimal own n long)
 
   digit-solid : (b : ℕ) → digit b ≡ true → solid b ≡ true
   digit-solid b e =
       let low = leb-true 48 b (and-parts (leb 48 b) (leb b 57) e .0) in
-      and-from (not (separates b)) (not (eqb 10 b)) (not-from-false (separates b) (or-from (eqb 32 b) (eqb 44 b) (ne-eqb 32 b (λ e. omega arith)) (ne-eqb 44 b (λ e. omega arith)))) (not-from-false (eqb 10 b) (ne-eqb 10 b (λ e. omega arith)))
+      and-from (not (separates SpacesAndCommas b)) (not (separates LineFeeds b))
+      (not-from-false (separates SpacesAndCommas b) (or-from (eqb b 32) (eqb b 44) (ne-eqb b 32 (λ e. omega arith)) (ne-eqb b 44 (λ e. omega arith))))
+      (not-from-false (separates LineFeeds b) (ne-eqb b 10 (λ e. omega arith)))
 
   pub solid-decimal : all solid (decimal n) ≡ true
-  solid-decimal = all-by digit solid digit-solid (decimal n) all-digits
+  solid-decimal = all-by digit solid digit-solid (decimal n) (sym (each-digit (decimal n)) ∙ written-digits)
 
   -- a letter and a number are a name
   pub plain-name : (b : ℕ) → letter b ≡ true → plain (b ∷ decimal n) ≡ true
   plain-name b e =
       let short = length-decimal-le 5 n (omega arith) (omega arith) long in
-      and-from _ _ (and-from (leb 1 (suc (length (decimal n)))) (leb (suc (length (decimal n))) 15) (le-leb 1 (suc (length (decimal n))) (omega arith)) (le-leb (suc (length (decimal n))) 15 (omega arith))) (and-from (letter b || digit b) _ (rw e) (all-by digit (λ b. letter b || digit b) (λ b d. or-right (letter b) (digit b) d) (decimal n) all-digits))
+      and-from _ _ (and-from (leb 1 (suc (length (decimal n)))) (leb (suc (length (decimal n))) 15) (le-leb 1 (suc (length (decimal n))) (omega arith)) (le-leb (suc (length (decimal n))) 15 (omega arith))) (and-from (letter b || digit b) _ (rw e) (all-by digit (λ b. letter b || digit b) (λ b d. or-right (letter b) (digit b) d) (decimal n) (sym (each-digit (decimal n)) ∙ written-digits)))
 
   pub name-word : (b : ℕ) → letter b ≡ true → name (37 ∷ b ∷ decimal n) ≡ Some (b ∷ decimal n)
   name-word b e = ap (λ t. only-if t (b ∷ decimal n)) (plain-name b e)

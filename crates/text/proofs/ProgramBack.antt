@@ -17,7 +17,7 @@ use Rattle.semantics.specs.Cases.{from}
 use Rattle.domain.specs.Names.{same-word}
 use Rattle.semantics.proofs.Listed.{length-from}
 use Rattle.semantics.proofs.Numbers.{from-in}
-use Rattle.text.specs.Lines.{Bytes}
+use Rattle.scan.specs.Pieces.{Bytes}
 use Rattle.text.specs.Words.{and-then, name}
 use Rattle.text.specs.Forms.{in-line, ret-line}
 use Rattle.text.specs.Faults.{Read, accepted, Step, next, first-of, unless, formed-line, line-step, walk, sized}

@@ -13,7 +13,7 @@ use Rattle.domain.specs.Model.{Model}
 use Rattle.semantics.specs.Programs.{Program, All, records}
 use Rattle.semantics.specs.Rules.{numbered}
 use Rattle.semantics.specs.Cases.{from}
-use Rattle.text.specs.Lines.{Bytes}
+use Rattle.scan.specs.Pieces.{Bytes}
 use Rattle.text.specs.Forms.{Form, Written, form, rule-line, arrow-line, end-line, in-line, ret-line, instruction-line}
 use Rattle.text.specs.Faults.{next, accepted, first-of}
 use Rattle.text.specs.Instructions.{Named, names-of, bodies, place, instruction-fault}

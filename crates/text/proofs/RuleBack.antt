@@ -16,7 +16,7 @@ use Rattle.semantics.specs.Rules.{Rule, numbered, source-of, read-in, All-read,
 use Rattle.semantics.proofs.Members.{all-weaker, holds}
 use Rattle.semantics.specs.Cases.{from, case-number}
 use Rattle.semantics.proofs.Listed.{length-from}
-use Rattle.text.specs.Lines.{Bytes}
+use Rattle.scan.specs.Pieces.{Bytes}
 use Rattle.domain.specs.Names.{same-word}
 use Rattle.text.specs.Words.{any}
 use Rattle.text.specs.Faults.{Read, accepted, Step, next, first-of, unless, formed-line, line-step, walk, sized}

@@ -14,7 +14,7 @@ use Rattle.domain.specs.Model.{Model}
 use Rattle.semantics.specs.Programs.{Formed, All}
 use Rattle.semantics.specs.Rules.{Rule, side, source-of, variable-in}
 use Rattle.semantics.specs.Cases.{case-number}
-use Rattle.text.specs.Lines.{Bytes}
+use Rattle.scan.specs.Pieces.{Bytes}
 use Rattle.domain.specs.Names.{same-word}
 use Rattle.text.specs.Forms.{Form, Written, form, rule-line, arrow-line, end-line, in-line, ret-line, instruction-line}
 use Rattle.text.specs.Faults.{next, accepted}

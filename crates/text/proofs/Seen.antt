@@ -14,7 +14,7 @@ use Rattle.domain.specs.Model.{Model}
 use Rattle.semantics.specs.Programs.{All, reads}
 use Rattle.semantics.specs.Rules.{reads-variable, variable-in}
 use Rattle.semantics.specs.Cases.{from}
-use Rattle.text.specs.Lines.{Bytes}
+use Rattle.scan.specs.Pieces.{Bytes}
 use Rattle.text.specs.Instructions.{among, learnt}
 use Rattle.text.specs.Accepted.{operands, In-turn}
 use Rattle.text.specs.Writing.{input-name}

@@ -8,14 +8,15 @@ use lib.Dec.{eqb}
 use lib.ListN.{length, length-append}
 use Rattle.std.proofs.shelf.Tests.{and-parts, not-true, or-from}
 use Rattle.semantics.specs.Programs.{All, all}
-use Rattle.text.specs.Lines.{Bytes, byte-before, pieces, lines, separates, non-empty, words, no-word, begins, skipped}
+use Rattle.scan.specs.declared.Separators.the-variants.{LineFeeds, SpacesAndCommas}
+use Rattle.scan.specs.Pieces.{Bytes, byte-before, pieces, lines, separates, non-empty, words}
 use Rattle.text.specs.Forms.{Form, form}
-use Rattle.text.specs.Faults.{Read, Step, next, formed-line, line-step, go-on, walk}
+use Rattle.text.specs.Faults.{Read, Step, next, no-word, begins, skipped, formed-line, line-step, go-on, walk}
 use Rattle.text.specs.Writing.{spaced, text-of}
 
 -- a byte of a word: it separates no words and ends no line
 abbrev pub solid : ℕ → Bool
-solid b = not (separates b) && not (eqb 10 b)
+solid b = not (separates SpacesAndCommas b) && not (separates LineFeeds b)
 
 -- a word of 1 to 6 such bytes
 pub record Good (w : Bytes) : Type 0 where
@@ -24,17 +25,17 @@ pub record Good (w : Bytes) : Type 0 where
   pub solid-bytes : all solid w ≡ true
 
 -- a piece is cut off where it ends
-pub pieces-cut : (ends : ℕ → Bool) (p : Bytes) (b : ℕ) (rest : Bytes) → all (λ x. not (ends x)) p ≡ true → ends b ≡ true → pieces ends (p ++ b ∷ rest) ≡ p ∷ pieces ends rest
-pieces-cut ends [] b rest s e = ap (λ t. byte-before t b (pieces ends rest)) e
-pieces-cut ends (x ∷ p) b rest s e =
+pub piece-before : (ends : ℕ → Bool) (p : Bytes) (b : ℕ) (rest : Bytes) → all (λ x. not (ends x)) p ≡ true → ends b ≡ true → pieces ends (p ++ b ∷ rest) ≡ p ∷ pieces ends rest
+piece-before ends [] b rest s e = ap (λ t. byte-before t b (pieces ends rest)) e
+piece-before ends (x ∷ p) b rest s e =
     let (here, later) = and-parts (not (ends x)) (all (λ x. not (ends x)) p) s in
-    ap (λ t. byte-before t x (pieces ends (p ++ b ∷ rest))) (not-true (ends x) here) ∙ ap (byte-before false x) (pieces-cut ends p b rest later e)
+    ap (λ t. byte-before t x (pieces ends (p ++ b ∷ rest))) (not-true (ends x) here) ∙ ap (byte-before false x) (piece-before ends p b rest later e)
 
-pub pieces-whole : (ends : ℕ → Bool) (x : ℕ) (p : Bytes) → all (λ x. not (ends x)) (x ∷ p) ≡ true → pieces ends (x ∷ p) ≡ (x ∷ p) ∷ []
-pieces-whole ends x [] s = ap (λ t. byte-before t x []) (not-true (ends x) (and-parts (not (ends x)) true s .0))
-pieces-whole ends x (y ∷ p) s =
+pub piece-alone : (ends : ℕ → Bool) (x : ℕ) (p : Bytes) → all (λ x. not (ends x)) (x ∷ p) ≡ true → pieces ends (x ∷ p) ≡ (x ∷ p) ∷ []
+piece-alone ends x [] s = ap (λ t. byte-before t x []) (not-true (ends x) (and-parts (not (ends x)) true s .0))
+piece-alone ends x (y ∷ p) s =
     let (here, later) = and-parts (not (ends x)) (all (λ x. not (ends x)) (y ∷ p)) s in
-    ap (λ t. byte-before t x (pieces ends (y ∷ p))) (not-true (ends x) here) ∙ ap (byte-before false x) (pieces-whole ends y p later)
+    ap (λ t. byte-before t x (pieces ends (y ∷ p))) (not-true (ends x) here) ∙ ap (byte-before false x) (piece-alone ends y p later)
 
 all-weaker : (p q : ℕ → Bool) → ((b : ℕ) → p b ≡ true → q b ≡ true) → (w : Bytes) → all p w ≡ true → all q w ≡ true
 all-weaker p q f [] e = refl
@@ -50,27 +51,27 @@ all-join p (b ∷ v) w e f = let (here, later) = and-parts (p b) (all p v) e in 
 pub all-by : (p q : ℕ → Bool) → ((b : ℕ) → p b ≡ true → q b ≡ true) → (w : Bytes) → all p w ≡ true → all q w ≡ true
 all-by p q f w e = all-weaker p q f w e
 
-unseparated : (w : Bytes) → Good w → all (λ b. not (separates b)) w ≡ true
-unseparated w g = all-weaker solid (λ b. not (separates b)) (λ b e. and-parts (not (separates b)) (not (eqb 10 b)) e .0) w (g .solid-bytes)
+unseparated : (w : Bytes) → Good w → all (λ b. not (separates SpacesAndCommas b)) w ≡ true
+unseparated w g = all-weaker solid (λ b. not (separates SpacesAndCommas b)) (λ b e. and-parts (not (separates SpacesAndCommas b)) (not (separates LineFeeds b)) e .0) w (g .solid-bytes)
 
-unended : (w : Bytes) → Good w → all (λ b. not (eqb 10 b)) w ≡ true
-unended w g = all-weaker solid (λ b. not (eqb 10 b)) (λ b e. and-parts (not (separates b)) (not (eqb 10 b)) e .1) w (g .solid-bytes)
+unended : (w : Bytes) → Good w → all (λ b. not (separates LineFeeds b)) w ≡ true
+unended w g = all-weaker solid (λ b. not (separates LineFeeds b)) (λ b e. and-parts (not (separates SpacesAndCommas b)) (not (separates LineFeeds b)) e .1) w (g .solid-bytes)
 
-words-spaced : (ws : List Bytes) → All Good ws → words (spaced ws) ≡ ws
+words-spaced : (ws : List Bytes) → All Good ws → words SpacesAndCommas (spaced ws) ≡ ws
 words-spaced [] g = refl
 words-spaced ([] ∷ ws) g = let h = g .0 .some in absurd (omega arith)
-words-spaced ((b ∷ w) ∷ []) g = ap non-empty (pieces-whole separates b w (unseparated (b ∷ w) (g .0)))
+words-spaced ((b ∷ w) ∷ []) g = ap non-empty (piece-alone (separates SpacesAndCommas) b w (unseparated (b ∷ w) (g .0)))
 words-spaced ((b ∷ w) ∷ v ∷ ws) g =
-    ap non-empty (pieces-cut separates (b ∷ w) 32 (spaced (v ∷ ws)) (unseparated (b ∷ w) (g .0)) refl) ∙ ap (λ l. (b ∷ w) ∷ l) (words-spaced (v ∷ ws) (g .1))
+    ap non-empty (piece-before (separates SpacesAndCommas) (b ∷ w) 32 (spaced (v ∷ ws)) (unseparated (b ∷ w) (g .0)) refl) ∙ ap (λ l. (b ∷ w) ∷ l) (words-spaced (v ∷ ws) (g .1))
 
-spaced-unended : (ws : List Bytes) → All Good ws → all (λ b. not (eqb 10 b)) (spaced ws) ≡ true
+spaced-unended : (ws : List Bytes) → All Good ws → all (λ b. not (separates LineFeeds b)) (spaced ws) ≡ true
 spaced-unended [] g = refl
 spaced-unended (w ∷ []) g = unended w (g .0)
-spaced-unended (w ∷ v ∷ ws) g = all-join (λ b. not (eqb 10 b)) w (32 ∷ spaced (v ∷ ws)) (unended w (g .0)) (spaced-unended (v ∷ ws) (g .1))
+spaced-unended (w ∷ v ∷ ws) g = all-join (λ b. not (separates LineFeeds b)) w (32 ∷ spaced (v ∷ ws)) (unended w (g .0)) (spaced-unended (v ∷ ws) (g .1))
 
 pub lines-text : (ls : List (List Bytes)) → All (All Good) ls → lines (text-of ls) ≡ map spaced ls
 lines-text [] g = refl
-lines-text (ws ∷ ls) g = pieces-cut (eqb 10) (spaced ws) 10 (text-of ls) (spaced-unended ws (g .0)) refl ∙ ap (λ l. spaced ws ∷ l) (lines-text ls (g .1))
+lines-text (ws ∷ ls) g = piece-before (separates LineFeeds) (spaced ws) 10 (text-of ls) (spaced-unended ws (g .0)) refl ∙ ap (λ l. spaced ws ∷ l) (lines-text ls (g .1))
 
 length-spaced : (w : Bytes) (ws : List Bytes) → All Good (w ∷ ws) → length (spaced (w ∷ ws)) + 1 ≤ 7 * length (w ∷ ws)
 length-spaced w [] g = let h = g .0 .short in omega arith
@@ -106,7 +107,7 @@ pub step-spaced : {S : Type 0} (step : S → Form → Step S) (s : S) (b : ℕ) 
 step-spaced step s b w ws g e =
     let split = words-spaced ((b ∷ w) ∷ ws) g in
     let stays : skipped (spaced ((b ∷ w) ∷ ws)) ≡ false = or-from _ _ (ap no-word split) (first-byte 59 b w ws ∙ e) in
-    ap (λ t. cond t (next s) (formed-line step s (form (words (spaced ((b ∷ w) ∷ ws)))))) stays ∙ ap (λ l. formed-line step s (form l)) split
+    ap (λ t. cond t (next s) (formed-line step s (form (words SpacesAndCommas (spaced ((b ∷ w) ∷ ws)))))) stays ∙ ap (λ l. formed-line step s (form l)) split
 
 pub walk-on : {S A : Type 0} (step : S → Form → Step S) (finish : S → ℕ → Read A) (s t : S) (n : ℕ) (l : Bytes) (ls : List Bytes) → line-step step s l ≡ next t → walk step finish s n (l ∷ ls) ≡ walk step finish t (suc n) ls
 walk-on step finish s t n l ls e = ap (λ x. go-on x n (λ t. walk step finish t (suc n) ls)) e

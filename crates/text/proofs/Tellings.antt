@@ -10,9 +10,10 @@ use Rattle.std.proofs.shelf.Tests.{leb-true, leb-false, le-leb, lt-leb, cond-tr
 use Rattle.std.specs.declared.option.Option.{Option}
 use Rattle.std.specs.declared.option.Option.the-variants.{Some, None}
 use Rattle.domain.specs.Model.{Model}
-use Rattle.text.specs.Lines.{Bytes, lines, words, skipped}
+use Rattle.scan.specs.declared.Separators.the-variants.{SpacesAndCommas}
+use Rattle.scan.specs.Pieces.{Bytes, lines, words}
 use Rattle.text.specs.Forms.{Form, Written, form, rule-line, arrow-line, end-line, in-line, ret-line, instruction-line}
-use Rattle.text.specs.Faults.{Fault, fault, Read, refused, Step, next, wrong, first-of, unless, formed-line, line-step, go-on, walk, sized, read}
+use Rattle.text.specs.Faults.{Fault, fault, Read, refused, Step, next, wrong, first-of, unless, skipped, formed-line, line-step, go-on, walk, sized, read}
 use Rattle.text.specs.Instructions.{Named, Names, names-of, place, number-outside, name-wrong, bad-marks, code-missing, instruction-fault}
 use Rattle.text.specs.Refused.{Told, Rules-told, Programs-told}
 use Rattle.text.specs.RuleTexts as R
@@ -60,9 +61,9 @@ module _ {S A : Type 0} (step : S → Form → Step S) (finish : S → ℕ → R
   line-in : (s : S) (l : Bytes) (n : ℕ) → line-step step s l ≡ wrong n → In-line n
   line-in s l n e = go (skipped l) e
     where
-      go : (b : Bool) → cond b (next s) (formed-line step s (form (words l))) ≡ wrong n → In-line n
+      go : (b : Bool) → cond b (next s) (formed-line step s (form (words SpacesAndCommas l))) ≡ wrong n → In-line n
       go true e = none-wrong e
-      go false e = formed-in s (form (words l)) n e
+      go false e = formed-in s (form (words SpacesAndCommas l)) n e
 
   -- refused in one of the lines from n on, or at the end
   abbrev Place : ℕ → ℕ → Fault → Type 0

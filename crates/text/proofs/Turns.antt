@@ -13,7 +13,7 @@ use Rattle.semantics.specs.declared.Operand.the-variants.{Input, Record, Consta
 use Rattle.semantics.specs.declared.Instruction.{Instruction}
 use Rattle.domain.specs.Model.{Model}
 use Rattle.semantics.specs.Programs.{reads}
-use Rattle.text.specs.Lines.{Bytes}
+use Rattle.scan.specs.Pieces.{Bytes}
 use Rattle.text.specs.Words.{Argument, a-name, a-number, a-code}
 use Rattle.text.specs.Forms.{Written}
 use Rattle.text.specs.Instructions.{Names, place, among, learnt, constant, named, operand, instruction}

@@ -4,7 +4,7 @@ use mathlib.Core.Bool.{Bool, true, false, cond}
 use mathlib.Core.List.{List, [], _∷_, _++_, map}
 use Prim.Native.Nat.{ℕ, suc, _≤_, _<_}
 use native.Mathlib.Omega.{arith}
-use lib.Dec.{eqb, leb}
+use lib.Dec.{eqb, ltb}
 use lib.IntN.{pos}
 use lib.ListN.{length, length-map, length-append}
 use Rattle.std.proofs.shelf.Tests.{and-right, eq-eqb}
@@ -14,12 +14,14 @@ use Rattle.semantics.specs.declared.Operand.{Operand}
 use Rattle.semantics.specs.declared.Operand.the-variants.{Input, Record, Constant}
 use Rattle.domain.specs.declared.operation.Operation.{Operation}
 use Rattle.semantics.specs.declared.Instruction.{Instruction}
-use Rattle.semantics.specs.Programs.{Kind, binary, copying, freezing, selecting, kind, All, reads-of, reads, all}
+use Rattle.semantics.specs.Programs.{All, reads}
 use Rattle.semantics.specs.Cases.{keep}
-use Rattle.text.specs.Lines.{Bytes}
-use Rattle.text.specs.Words.{Argument, a-name, a-number, a-code, only-if, and-then, or-else, each, digit, name, digits, worth, constant-argument, argument}
-use Rattle.domain.specs.Names.{operation-named, name-of, same-word}
-use Rattle.semantics.specs.Operations.{facts, operands-of, operand-count}
+use Rattle.semantics.proofs.Counts.{reads-count, reads-few}
+use Rattle.scan.specs.Pieces.{Bytes}
+use Rattle.scan.specs.Numbers.{all-digits, digits, worth}
+use Rattle.text.specs.Words.{Argument, a-name, a-number, a-code, only-if, and-then, or-else, each, name, constant-argument, argument}
+use Rattle.domain.specs.Names.{operation-named, operand-count, name-of, same-word}
+use Rattle.semantics.specs.Operations.{facts}
 use Rattle.text.specs.Forms.{Written, instruction-line, mark-before, leading-marks, not-a-mark, behind-marks, arguments, written, form, mark}
 use Rattle.text.specs.Instructions.{known}
 use Rattle.text.specs.Neat.{in-set, written-marks}
@@ -57,25 +59,13 @@ length-keep : (t : ℕ → Bool) (xs : List ℕ) → length (keep t xs) ≤ leng
 length-keep t [] = omega arith
 length-keep t (x ∷ xs) = let h = length-keep t xs in elim (t x) as (λ b. length (cond b (x ∷ keep t xs) (keep t xs)) ≤ suc (length xs)) [ true ↦ omega arith | false ↦ omega arith ]
 
-count-of : (k : Kind) (i : Instruction) → length (reads-of k i) ≡ operands-of k
-count-of binary i = refl
-count-of copying i = refl
-count-of freezing i = refl
-count-of selecting i = refl
-
-few-of : (k : Kind) → operands-of k ≤ 3
-few-of binary = omega arith
-few-of copying = omega arith
-few-of freezing = omega arith
-few-of selecting = omega arith
-
 -- f names the instructions
 module _ (f : ℕ → Bytes) (total : ℕ) (naming : Naming f total) where
   reads-argument : (o : Operand) → Small total o → argument (operand-word f o) ≡ Some (argument-of f o)
   reads-argument (Input k) s = ap (λ x. or-else (and-then x (λ n. Some (a-name n))) (constant-argument (operand-word f (Input k)))) (name-word (suc k) (omega arith) 105 refl)
   reads-argument (Record r) s = ap (λ x. or-else (and-then x (λ n. Some (a-name n))) (constant-argument (operand-word f (Record r)))) (naming .reads r s)
   reads-argument (Constant c) s =
-      ap (λ b. or-else (and-then (only-if b (worth 0 (35 ∷ decimal c))) (λ v. Some (a-number (pos v)))) (and-then (digits (decimal c)) (λ v. Some (a-code v)))) (and-right (leb 1 (suc (length (decimal c)))) (all digit (35 ∷ decimal c)) refl)
+      ap (λ b. or-else (and-then (cond b (Some (worth 0 (35 ∷ decimal c))) None) (λ v. Some (a-number (pos v)))) (and-then (digits (decimal c)) (λ v. Some (a-code v)))) (and-right (ltb 0 (suc (length (decimal c)))) (all-digits (35 ∷ decimal c)) refl)
       ∙ ap (λ x. and-then x (λ v. Some (a-code v))) (reads-decimal c (omega arith))
 
   reads-arguments : (os : List Operand) → All (Small total) os → each argument (map (operand-word f) os) ≡ Some (map (argument-of f) os)
@@ -116,7 +106,7 @@ module _ (f : ℕ → Bytes) (total : ℕ) (naming : Naming f total) where
     reads-operands : arguments op (map (operand-word f) (reads i)) ≡ Some (map (argument-of f) (reads i))
     reads-operands =
         ap (λ x. and-then x (λ args. only-if (eqb (length args) (operand-count op)) args)) (reads-arguments (reads i) small)
-        ∙ ap (λ b. only-if b (map (argument-of f) (reads i))) (eq-eqb (length (map (argument-of f) (reads i))) (operand-count op) (length-map (reads i) (argument-of f) ∙ count-of (kind op) i))
+        ∙ ap (λ b. only-if b (map (argument-of f) (reads i))) (eq-eqb (length (map (argument-of f) (reads i))) (operand-count op) (length-map (reads i) (argument-of f) ∙ reads-count i))
 
     reads-written : written (f r) op (map mark-word ms ++ map (operand-word f) (reads i)) ≡ Some (instruction-line (line-of f r i))
     reads-written =
@@ -154,8 +144,7 @@ module _ (f : ℕ → Bytes) (total : ℕ) (naming : Naming f total) where
         let a = length-append (map mark-word ms) (map (operand-word f) (reads i)) in
         let b = length-map ms mark-word in
         let c = length-map (reads i) (operand-word f) in
-        let d = count-of (kind op) i in
-        let e = few-of (kind op) in
+        let d = reads-few i in
         let h = length-keep (in-set (i .marks .bits)) (facts op .permitted) in
         let g = op-fine op .few in
         omega arith

@@ -16,7 +16,7 @@ use Rattle.domain.specs.Model.{Model, Lawful}
 use Rattle.semantics.specs.Programs.{All, reads}
 use Rattle.semantics.proofs.Members.{holds}
 use Rattle.semantics.specs.Cases.{from}
-use Rattle.text.specs.Lines.{Bytes}
+use Rattle.scan.specs.Pieces.{Bytes}
 use Rattle.text.specs.Words.{Argument, any, name}
 use Rattle.semantics.specs.Operations.{facts}
 use Rattle.text.specs.Forms.{arguments}

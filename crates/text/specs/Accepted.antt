@@ -9,7 +9,7 @@ use Rattle.semantics.specs.declared.Instruction.{Instruction}
 use Rattle.domain.specs.Model.{Model}
 use Rattle.semantics.specs.Programs.{Program, Formed, All, reads, records}
 use Rattle.semantics.specs.Rules.{Rule, Well-made}
-use Rattle.text.specs.Lines.{Bytes}
+use Rattle.scan.specs.Pieces.{Bytes}
 use Rattle.text.specs.Faults.{accepted}
 use Rattle.text.specs.Neat.{Neat}
 use Rattle.semantics.specs.Cases.{from, case-number}

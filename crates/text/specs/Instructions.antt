@@ -17,7 +17,7 @@ use Rattle.domain.specs.declared.operation.Operation.{Operation}
 use Rattle.semantics.specs.declared.Operand.{Operand}
 use Rattle.semantics.specs.declared.Operand.the-variants.{Input, Record, Constant}
 use Rattle.semantics.specs.declared.Instruction.{Instruction}
-use Rattle.text.specs.Lines.{Bytes}
+use Rattle.scan.specs.Pieces.{Bytes}
 use Rattle.domain.specs.Names.{same-word}
 use Rattle.semantics.specs.Operations.{facts}
 use Rattle.text.specs.Words.{Argument, a-name, a-number, a-code, any}

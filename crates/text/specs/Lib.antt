@@ -1,4 +1,3 @@
-pub mod Lines
 pub mod Words
 pub mod Forms
 pub mod Faults

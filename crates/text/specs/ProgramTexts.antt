@@ -9,7 +9,7 @@ use Rattle.std.specs.declared.option.Option.the-variants.{Some, None}
 use Rattle.domain.specs.Model.{Model}
 use Rattle.semantics.specs.Programs.{Program}
 use Rattle.semantics.specs.Rules.{numbered}
-use Rattle.text.specs.Lines.{Bytes}
+use Rattle.scan.specs.Pieces.{Bytes}
 use Rattle.text.specs.Forms.{Form, Written, rule-line, arrow-line, end-line, in-line, ret-line, instruction-line}
 use Rattle.text.specs.Faults.{Read, accepted, refused, Step, next, wrong, fault, first-of, unless, read}
 use Rattle.text.specs.Instructions.{Named, Names, names-of, bodies, place, among, instruction-fault, entered}

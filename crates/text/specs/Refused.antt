@@ -3,7 +3,7 @@ use mathlib.Core.Path.{_≡_}
 use Prim.Native.Nat.{ℕ, suc, _≤_, _<_}
 use lib.ListN.{length}
 use Rattle.domain.specs.Model.{Model}
-use Rattle.text.specs.Lines.{Bytes, lines}
+use Rattle.scan.specs.Pieces.{Bytes, lines}
 use Rattle.text.specs.Faults.{Fault, refused, layer-of}
 use Rattle.text.specs.RuleTexts.{read-rule}
 use Rattle.text.specs.ProgramTexts.{read-program}

@@ -1,14 +1,15 @@
 -- What a word may be: a name, a number, a code. Assumes nothing.
 use mathlib.Core.Bool.{Bool, true, false, _&&_, _||_}
 use mathlib.Core.List.{List, [], _∷_}
-use Prim.Native.Nat.{ℕ, _+_, _-_, _*_}
+use Prim.Native.Nat.{ℕ}
 use lib.Dec.{eqb, leb}
 use lib.IntN.{ℤ, pos, negℤ}
 use lib.ListN.{length}
 use Rattle.std.specs.declared.option.Option.{Option}
 use Rattle.std.specs.declared.option.Option.the-variants.{Some, None}
 use Rattle.semantics.specs.Programs.{all}
-use Rattle.text.specs.Lines.{Bytes}
+use Rattle.scan.specs.Pieces.{Bytes}
+use Rattle.scan.specs.Numbers.{digit, digits}
 
 abbrev pub any : {A : Type 0} → (A → Bool) → List A → Bool
 any test [] = false
@@ -31,9 +32,6 @@ abbrev pub each : {A : Type 0} → (Bytes → Option A) → List Bytes → Optio
 each kind [] = Some []
 each kind (w ∷ ws) = and-then (kind w) (λ x. and-then (each kind ws) (λ xs. Some (x ∷ xs)))
 
-abbrev pub digit : ℕ → Bool
-digit b = leb 48 b && leb b 57
-
 abbrev pub letter : ℕ → Bool
 letter b = leb 65 b && leb b 90 || leb 97 b && leb b 122
 
@@ -49,15 +47,6 @@ after sign (b ∷ w) = only-if (eqb sign b) w
 -- `%` and 1 to 15 letters or digits, which are the name
 abbrev pub name : Bytes → Option Bytes
 name w = and-then (after 37 w) (λ n. only-if (plain n) n)
-
--- decimal digits after a number's first ones, which are worth v
-abbrev pub worth : ℕ → Bytes → ℕ
-worth v [] = v
-worth v (d ∷ ds) = worth (v * 10 + (d - 48)) ds
-
--- one or more digits, of any length
-abbrev pub digits : Bytes → Option ℕ
-digits w = only-if (leb 1 (length w) && all digit w) (worth 0 w)
 
 -- a word in an operand's place
 pub data Argument : Type 0 where

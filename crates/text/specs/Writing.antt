@@ -14,7 +14,7 @@ use Rattle.domain.specs.Model.{Model}
 use Rattle.semantics.specs.Programs.{Placed, Program, reads}
 use Rattle.semantics.specs.Rules.{Rule, numbered}
 use Rattle.semantics.specs.Cases.{from}
-use Rattle.text.specs.Lines.{Bytes}
+use Rattle.scan.specs.Pieces.{Bytes}
 use Rattle.domain.specs.Names.{name-of}
 use Rattle.text.specs.Faults.{accepted}
 use Rattle.text.specs.ProgramTexts.{read-program}
