@@ -3,3 +3,4 @@ pub mod Calls
 pub mod Promise
 pub mod Entries
 pub mod Refusals
+pub mod OneCall

@@ -108,3 +108,11 @@ pub record Goes-on (m : Model) (calls : List Call) (c : Call) : Type 0 where
 
 abbrev pub One-more : Model → Type 0
 One-more m = (calls : List Call) (c : Call) → Goes-on m calls c
+
+-- a call that leads from one state to another keeps what was loaded, whatever list of calls led to the first
+abbrev pub Promised : Model → State → Call → State → Type 0
+Promised m st c st2 = (calls : List Call) → st ≡ after m calls → (st2 ≡ after m (calls ++ (c ∷ []))) × Keeps m (calls ++ (c ∷ []))
+
+-- an outcome answered in a state refines one of the last loaded program for these inputs
+abbrev pub Answers-for-loaded : Model → State → List ℕ → Outcome → Type 0
+Answers-for-loaded m st ins o = (calls : List Call) → st ≡ after m calls → Refines-one m o ins (last-loaded m calls)
