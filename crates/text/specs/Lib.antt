@@ -7,4 +7,5 @@ pub mod ProgramTexts
 pub mod Neat
 pub mod Accepted
 pub mod Writing
+pub mod Lines
 pub mod Refused

@@ -30,8 +30,11 @@ twice [] = false
 twice (n ∷ ns) = among n ns || twice ns
 
 -- `in`: one too many is the ninth name (4), and each may stand once (5)
+abbrev pub inputs-fault : List Bytes → Option ℕ
+inputs-fault ns = first-of (ltb 8 (length ns)) 4 (first-of (twice ns) 5 None)
+
 abbrev pub inputs-line : Reading → List Bytes → Step Reading
-inputs-line s ns = unless (first-of (ltb 8 (length ns)) 4 (first-of (twice ns) 5 None)) (record { section = in-body; inputs = ns; body = s .body; result = s .result })
+inputs-line s ns = unless (inputs-fault ns) (record { section = in-body; inputs = ns; body = s .body; result = s .result })
 
 -- an instruction reads inputs, constants and earlier instructions
 abbrev pub body-names : Reading → Names
