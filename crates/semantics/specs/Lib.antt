@@ -1,4 +1,5 @@
 pub mod Programs
+pub mod Values
 pub mod Operations
 pub mod Rules
 pub mod Fitting

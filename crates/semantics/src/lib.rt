@@ -9,6 +9,8 @@ use domain::Domain;
 use domain::marks::Marks;
 use domain::operation::Operation;
 
+pub mod step;
+
 // What an instruction reads: an input of the program, the instruction in a record, or a constant's code.
 #[derive(Clone, Copy, PartialEq)]
 pub enum Operand {

@@ -1,0 +1,10 @@
+pub mod Links
+pub mod Relinks
+pub mod Rising
+pub mod Places
+pub mod Counts
+pub mod Walks
+pub mod Searches
+pub mod Insertions
+pub mod Removals
+pub mod Moves

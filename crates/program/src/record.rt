@@ -1,0 +1,37 @@
+// A record of the table: an instruction, and the number of the next record.
+ghost use mathlib.Core.Path.{_≡_};
+ghost use mathlib.Core.List.{map};
+ghost use Prim.Native.Nat.{_≤_};
+ghost use lib.ListN.{length, take};
+use chain::Linked;
+use semantics::Instruction;
+
+#[derive(Clone, Copy)]
+pub struct Record {
+    pub instruction: Instruction,
+    pub next: u8,
+}
+
+pub impl Linked for Record as RecordLinked {
+    ghost successor = { λ r. r .next };
+
+    ghost relinked = { λ r n. record { instruction = r .instruction; next = n } };
+
+    fn next(&self) -> u8 {
+        self.next
+    }
+
+    fn link(&mut self, to: u8) {
+        self.next = to;
+    }
+}
+
+// Puts the instructions into the records from the first on. The caller owes that there are enough.
+pub fn fill(records: &mut [Record], instructions: &[Instruction])
+    requires { ⌜ length (now instructions) ≤ length (now records) ⌝ }
+    ensures { λ _. ⌜ take (length (now (instructions .entry))) (map (λ r. r .instruction) (now (records .exit))) ≡ now (instructions .entry) ⌝ }
+{
+    for i in 0..instructions.len() {
+        records[i].instruction = instructions[i];
+    }
+}
