@@ -3,3 +3,4 @@ pub mod Loading
 pub mod Every
 pub mod Running
 pub mod Freezes
+pub mod Steps

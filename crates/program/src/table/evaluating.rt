@@ -62,7 +62,7 @@ impl Table {
         count
     }
 
-    // Inputs and choices that are missing count as 0.
+    // The outcome of a run, where inputs and choices that are missing count as 0.
     fn run<D: Domain>(&self, domain: &D, inputs: &[u16], choices: &[u16]) -> Outcome
         ensures { λ r. ⌜ r ≡ outcome (D·Domain .model (now (domain .entry))) (view (now (self .entry)) .program) (now (inputs .entry)) (now (choices .entry)) ⌝ }
     {
