@@ -2,15 +2,14 @@
 use mathlib.Core.Path.{_≡_, sym, subst}
 use mathlib.Core.List.{List, [], _∷_}
 use Prim.Native.Nat.{ℕ}
-use Rattle.chain.specs.Chains.{Chained, Apart, Among, Clear, Others-stay, Becomes, Misses, link}
+use Rattle.chain.specs.Chains.{Chained, Apart, Among, Clear, Others-stay, Becomes, link}
 use Rattle.chain.specs.Places.{put-before, without}
 use Rattle.chain.specs.Walks.{Disjoint}
 use Rattle.chain.proofs.Relinks.{clear-among}
 use Rattle.chain.proofs.Places.{clear-before, clear-without, apart-gone}
 use Rattle.chain.proofs.Walks.{onward}
 
--- the first list has none of the second, taken from the second
-pub apart-first : (at : ℕ) (ks js : List ℕ) → Clear ks (at ∷ js) → Apart at ks
+apart-first : (at : ℕ) (ks js : List ℕ) → Clear ks (at ∷ js) → Apart at ks
 apart-first at [] js c = tt
 apart-first at (k ∷ ks) js c = ((λ e. c .0 .0 (sym e)), apart-first at ks js (c .1))
 
@@ -53,7 +52,7 @@ pub record Taken (links : List ℕ) (first free : ℕ) (ks js : List ℕ) : Type
   pub is : js ≡ free ∷ rest
   pub chains : Disjoint links first (link links free) ks rest
   pub apart : Apart free rest
-  pub misses : Misses links first free
+  pub away : Apart free ks
 
 pub takes-off : (links : List ℕ) (first free : ℕ) (ks js : List ℕ) → Disjoint links first free ks js → (free ≡ 0 → ⊥) → Taken links first free ks js
 takes-off links first free ks js d n =
@@ -64,5 +63,5 @@ takes-off links first free ks js d n =
       is = w .is;
       chains = record { used = d .used; spare = w .chain; clear = clear-rest free ks (w .behind) clear };
       apart = w .apart;
-      misses = (ks, d .used, apart-first free ks (w .behind) clear);
+      away = apart-first free ks (w .behind) clear;
     }

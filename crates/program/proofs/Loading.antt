@@ -13,9 +13,9 @@ use Rattle.chain.specs.Chains.{Chained, Others-stay, with-links}
 use Rattle.chain.specs.Places.{rising}
 use Rattle.chain.specs.Walks.{walk, Disjoint}
 use Rattle.chain.proofs.Rising.{clear-above, clear-below}
-use Rattle.chain.proofs.Walks.{walks}
 use Rattle.program.specs.declared.record.Record.{Record}
 use Rattle.program.specs.View.{links, instructions, placed, no-instruction, along}
+use Rattle.program.proofs.Tables.{shows}
 
 pub rising-from : (k n : ℕ) → rising k n ≡ from k n
 rising-from k zero = refl
@@ -64,17 +64,19 @@ halves before after n first free h c d stays =
       clear = clear-above 1 n (n + 1) (64 - n) (omega arith);
     }
 
+-- the records behind them as `as-loaded` has them
+spare-from : (n : ℕ) (is : List Instruction) → length is ≡ n → rising (n + 1) (64 - n) ≡ from (suc (length (numbered 1 is))) (64 - length (numbered 1 is))
+spare-from n is e =
+    let s : n + 1 ≡ suc n = omega arith in
+    rising-from (n + 1) (64 - n) ∙ ap (λ k. from k (64 - n)) s ∙ ap (λ k. from (suc k) (64 - k)) (sym (length-numbered 1 is ∙ e))
+
 -- what the table then shows
-pub shows : (rs : List Record) (is : List Instruction) (first free inputs result : ℕ) → take (length is) (instructions rs) ≡ is →
+pub shows-loaded : (rs : List Record) (is : List Instruction) (first free inputs result : ℕ) → take (length is) (instructions rs) ≡ is →
     Disjoint (links rs) first free (rising 1 (length is)) (rising (length is + 1) (64 - length is)) →
     _≡_ {A = Loaded} (record {
       program = record { inputs = inputs; body = along rs (walk (links rs) first); result = result };
       free = walk (links rs) free;
     }) (as-loaded (record { inputs = inputs; body = numbered 1 is; result = result }))
-shows rs is first free inputs result e d =
-    let n = length is in
-    let body : along rs (walk (links rs) first) ≡ numbered 1 is = ap (along rs) (walks (links rs) first (rising 1 n) (d .used)) ∙ filled (instructions rs) is e in
-    let s : n + 1 ≡ suc n = omega arith in
-    let spare : walk (links rs) free ≡ from (suc (length (numbered 1 is))) (64 - length (numbered 1 is)) =
-    walks (links rs) free (rising (n + 1) (64 - n)) (d .spare) ∙ rising-from (n + 1) (64 - n) ∙ ap (λ k. from k (64 - n)) s ∙ ap (λ k. from (suc k) (64 - k)) (sym (length-numbered 1 is)) in
-    cc
+shows-loaded rs is first free inputs result e d =
+    shows rs first free inputs result (rising 1 (length is)) (rising (length is + 1) (64 - length is)) (numbered 1 is) d (filled (instructions rs) is e) ∙
+    ap (λ l. record { program = record { inputs = inputs; body = numbered 1 is; result = result }; free = l }) (spare-from (length is) is refl)

@@ -1,4 +1,5 @@
 // The program last loaded: its instructions in the records of a table, chained in order, and the free records.
+mod codes;
 pub mod fault;
-pub mod record;
+mod record;
 pub mod table;

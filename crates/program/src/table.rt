@@ -7,7 +7,9 @@ ghost use lib.ListN.{length};
 ghost use Rattle.chain.specs.Walks.{walk, disjoint};
 use crate::record::Record;
 
-pub mod loading;
+mod evaluating;
+mod loading;
+mod rewriting;
 
 // The instructions of the program are chained from `first` and the free records from `free`: two chains that share no record and
 // together have all.

@@ -7,7 +7,7 @@ use Rattle.chain.specs.Walks.{Disjoint}
 use Rattle.chain.proofs.Rising.{length-rising}
 use Rattle.program.specs.View.{links, instructions}
 use Rattle.program.proofs.Tables.{sound}
-use Rattle.program.proofs.Loading.{halves, shows, same-instructions}
+use Rattle.program.proofs.Loading.{halves, shows-loaded, same-instructions}
 use Rattle.program.proofs.table.Table.load.Needs as need
 use Rattle.program.proofs.table.Table.load.Needs.{After-rise-self-2}
 
@@ -28,4 +28,4 @@ returns c =
     let is = c .args .instructions .now in
     let one : instructions (c .rise-self .last .records) ≡ instructions (c .fill .last .records) = ap instructions (c .rise-self .ensures .rest) ∙ same-instructions (c .fill .last .records) (links (c .rise-self .last .records)) in
     let two : instructions (c .rise-self-2 .last .records) ≡ instructions (c .rise-self .last .records) = ap instructions (c .rise-self-2 .ensures .rest) ∙ same-instructions (c .rise-self .last .records) (links (c .rise-self-2 .last .records)) in
-    shows (c .rise-self-2 .last .records) is (c .rise-self .result) (c .rise-self-2 .result) (c .args .inputs) (c .args .result) (ap (take (length is)) (two ∙ one) ∙ c .fill .ensures) (chained (need.at·returns c .After-rise-self-2))
+    shows-loaded (c .rise-self-2 .last .records) is (c .rise-self .result) (c .rise-self-2 .result) (c .args .inputs) (c .args .result) (ap (take (length is)) (two ∙ one) ∙ c .fill .ensures) (chained (need.at·returns c .After-rise-self-2))

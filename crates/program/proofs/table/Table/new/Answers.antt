@@ -8,7 +8,7 @@ use Rattle.chain.specs.Walks.{Disjoint}
 use Rattle.chain.proofs.Rising.{length-rising}
 use Rattle.program.specs.View.{links}
 use Rattle.program.proofs.Tables.{sound}
-use Rattle.program.proofs.Loading.{shows}
+use Rattle.program.proofs.Loading.{shows-loaded}
 use Rattle.program.proofs.table.Table.new.Needs as need
 use Rattle.program.proofs.table.Table.new.Needs.{After-rise-free}
 
@@ -21,4 +21,4 @@ ghost-result c =
     (k .long, (k .chains, (k .all, tt)))
 
 pub returns : need.returns
-returns c = shows (c .rise-free .last .records) [] 0 (c .rise-free .result) 0 0 refl (free (need.at·returns c .After-rise-free))
+returns c = shows-loaded (c .rise-free .last .records) [] 0 (c .rise-free .result) 0 0 refl (free (need.at·returns c .After-rise-free))
