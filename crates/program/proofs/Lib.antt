@@ -3,4 +3,5 @@ pub mod Loading
 pub mod Every
 pub mod Running
 pub mod Freezes
+pub mod Looking
 pub mod Steps

@@ -9,6 +9,7 @@ use crate::record::Record;
 
 mod evaluating;
 mod loading;
+mod looking;
 mod rewriting;
 
 // The instructions of the program are chained from `first` and the free records from `free`: two chains that share no record and
