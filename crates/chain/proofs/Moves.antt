@@ -2,11 +2,10 @@
 use mathlib.Core.Path.{_≡_, sym, subst}
 use mathlib.Core.List.{List, [], _∷_}
 use Prim.Native.Nat.{ℕ}
-use Rattle.chain.specs.Chains.{Chained, Apart, Among, Clear, Others-stay, Becomes, link}
+use Rattle.chain.specs.Chains.{Chained, Apart, Clear, Others-stay, Becomes, link}
 use Rattle.chain.specs.Places.{put-before, without}
 use Rattle.chain.specs.Walks.{Disjoint}
-use Rattle.chain.proofs.Relinks.{clear-among}
-use Rattle.chain.proofs.Places.{clear-before, clear-without, apart-gone}
+use Rattle.chain.proofs.Places.{clear-before, clear-without}
 use Rattle.chain.proofs.Walks.{onward}
 
 apart-first : (at : ℕ) (ks js : List ℕ) → Clear ks (at ∷ js) → Apart at ks

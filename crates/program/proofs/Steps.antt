@@ -1,13 +1,13 @@
 -- The steps of rewriting on the instructions along a chain. Assumes nothing.
 use mathlib.Core.Path.{_≡_, refl, sym, ap, subst, _∙_}
-use mathlib.Core.Bool.{Bool, true, false, cond, _||_}
+use mathlib.Core.Bool.{cond, _||_}
 use mathlib.Core.Logic.{_⊎_, inl, inr, ⊎-elim}
 use mathlib.Core.List.{List, [], _∷_, map}
-use Prim.Native.Nat.{ℕ, suc, _+_, _-_, _<_, _≤_}
+use Prim.Native.Nat.{ℕ, _-_, _≤_}
 use native.Mathlib.Omega.{arith}
 use lib.Dec.{T, eqb}
-use lib.ListN.{length, getD, set}
-use Rattle.std.proofs.shelf.Tests.{cond-both, cond-true, cond-false, eqb-true, eqb-false, eq-eqb, ne-eqb, cases-bool}
+use lib.ListN.{length, set}
+use Rattle.std.proofs.shelf.Tests.{cond-true, cond-false, eqb-true, eqb-false, cases-bool}
 use Rattle.std.proofs.shelf.Lists.{getD-set-same, getD-set-other}
 use Rattle.semantics.specs.Programs.{Placed, has, records}
 use Rattle.semantics.specs.declared.Instruction.{Instruction}

@@ -14,6 +14,7 @@ mod rewriting;
 
 // The instructions of the program are chained from `first` and the free records from `free`: two chains that share no record and
 // together have all.
+#[derive(Drop)]
 pub struct Table {
     records: [Record; 64],
     first: u8,

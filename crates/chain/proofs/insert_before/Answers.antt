@@ -1,10 +1,10 @@
-use mathlib.Core.Path.{_≡_, refl, sym, subst, _∙_}
-use mathlib.Core.List.{List, _∷_, map}
+use mathlib.Core.Path.{sym, subst}
+use mathlib.Core.List.{List, map}
 use Prim.Native.Nat.{ℕ}
 use native.Mathlib.Omega.{arith}
 use Rattle.std.proofs.shelf.Lists.{length-map}
-use Rattle.chain.specs.Chains.{Chained, Among}
-use Rattle.chain.specs.Places.{put-before, put-behind}
+use Rattle.chain.specs.Chains.{Chained}
+use Rattle.chain.specs.Places.{put-before}
 use Rattle.chain.proofs.Relinks.{among-within, apart-among}
 use Rattle.chain.proofs.Insertions.{goes-first, goes-behind, misses, inserts-others}
 use Rattle.chain.proofs.insert_before.Needs as need

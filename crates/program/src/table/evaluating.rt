@@ -66,6 +66,7 @@ impl Table {
     fn run<D: Domain>(&self, domain: &D, inputs: &[u16], choices: &[u16]) -> Outcome
         ensures { λ r. ⌜ r ≡ outcome (D·Domain .model (now (domain .entry))) (view (now (self .entry)) .program) (now (inputs .entry)) (now (choices .entry)) ⌝ }
     {
+        // by the numbers of the records, which begin at 1
         let mut values = [0; 65];
         let mut used = 0;
         let mut at = self.first;

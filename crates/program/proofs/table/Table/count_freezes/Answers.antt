@@ -1,14 +1,12 @@
 use mathlib.Core.Path.{_≡_, sym, ap, subst, _∙_}
-use mathlib.Core.Bool.{true, false}
-use mathlib.Core.List.{List}
-use Prim.Native.Nat.{ℕ, _-_, _≤_}
+use mathlib.Core.Bool.{Bool, true, false}
+use Prim.Native.Nat.{_-_}
 use native.Mathlib.Omega.{arith}
-use lib.ListN.{length, getD}
 use Rattle.std.proofs.shelf.Lists.{length-map}
 use Rattle.semantics.specs.Programs.{is-freeze}
 use Rattle.chain.proofs.Walks.{shorter}
 use Rattle.program.specs.declared.record.Record.{Record}
-use Rattle.program.specs.View.{links, instructions, no-instruction}
+use Rattle.program.specs.View.{links, instructions}
 use Rattle.program.proofs.Tables.{chains-of, inside}
 use Rattle.program.proofs.Freezes.{Counting, starts, counts, skips, ends-with}
 use Rattle.program.proofs.table.Table.count_freezes.Needs as need
@@ -44,7 +42,7 @@ loop-at-less c =
 pub loop-at-again : need.loop-at-again
 loop-at-again c =
     let t = c .args .self .now in
-    let here = λ (b : mathlib.Core.Bool.Bool) (h : c .is-freeze .result ≡ b). ap is-freeze (sym (c .instruction-of .ensures)) ∙ sym (c .is-freeze .ensures) ∙ h in
+    let here = λ (b : Bool) (h : c .is-freeze .result ≡ b). ap is-freeze (sym (c .instruction-of .ensures)) ∙ sym (c .is-freeze .ensures) ∙ h in
     let on = Counting (links (t .records)) (instructions (t .records)) (t .first) (c .next-of-at .result) in
     elim (c .if-is-freeze .came) [
       | then-is-freeze w ↦ subst on (sym (w .count-is)) (counts (links (t .records)) (instructions (t .records)) (t .first) (c .loop-at .at) (c .loop-at .count) (c .loop-at .inv) (c .loop-at-test .taken) (here true (w .if-is-freeze .taken)) .1 (c .next-of-at .result) (c .next-of-at .ensures))

@@ -1,8 +1,6 @@
-use mathlib.Core.Path.{_≡_, refl}
+use mathlib.Core.Path.{refl}
 use mathlib.Core.List.{[]}
-use Prim.Native.Nat.{_+_}
 use native.Mathlib.Omega.{arith}
-use lib.ListN.{length}
 use Rattle.chain.specs.Places.{rising}
 use Rattle.chain.specs.Walks.{Disjoint}
 use Rattle.chain.proofs.Rising.{length-rising}
