@@ -1,0 +1,3 @@
+// Reads the texts of rules and programs in place.
+pub mod form;
+pub mod token;
