@@ -1,1 +1,2 @@
 pub mod NameTables
+pub mod Operands

@@ -1,5 +1,7 @@
 // Reads the texts of rules and programs in place.
 pub mod fault;
 pub mod form;
+pub mod instruction;
 pub mod names;
+pub mod scope;
 pub mod token;
