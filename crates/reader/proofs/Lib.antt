@@ -1,2 +1,6 @@
+pub mod Words
+pub mod Shapes
 pub mod NameTables
 pub mod Operands
+pub mod Told
+pub mod Borne

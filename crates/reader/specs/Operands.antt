@@ -20,6 +20,8 @@ use Rattle.text.specs.Words.{a-number, a-code, any}
 use Rattle.text.specs.Instructions.{Names, known, named, place, filler, outside}
 use Rattle.reader.specs.declared.fault.TextFault.{TextFault}
 use Rattle.reader.specs.declared.fault.TextFault.the-variants.{NumberOutside, TooMany, BadName, BadMark}
+use Rattle.reader.specs.declared.fault.ReadFault.{ReadFault}
+use Rattle.reader.specs.declared.fault.ReadFault.the-variants.{Text, Domain}
 use Rattle.reader.specs.declared.form.Written.{Written}
 use Rattle.reader.specs.Tokens.{Seen, is-name, is-number, is-code, is-word, seen, tokens}
 
@@ -87,3 +89,9 @@ instruction-of m ns w =
       second = y;
       third = z;
     }))))
+
+-- a text's fault comes before a domain's, and each gains its line
+abbrev pub found-on : {X : Type 0} → ℕ → Result (Unit {0}) TextFault → Result X DomainFault → Result X ReadFault
+found-on line (Err f) r = Err (Text (record { line = line; fault = f }))
+found-on line (Ok x) (Err f) = Err (Domain (record { line = line; fault = f }))
+found-on line (Ok x) (Ok y) = Ok y

@@ -28,10 +28,15 @@ abbrev pub located : {X F : Type 0} → ℕ → Result X F → Result X (At F)
 located line (Ok x) = Ok x
 located line (Err f) = Err (record { line = line; fault = f })
 
--- what a call on a line did, as a step
-abbrev pub stepped : {X S : Type 0} → Result X ReadFault → S → Step S
-stepped (Ok x) s = next s
-stepped (Err f) s = wrong (read-fault f .number)
+-- what a call on a line answered, as a step
+abbrev pub answered : {X : Type 0} → Result X ReadFault → Step X
+answered (Ok x) = next x
+answered (Err f) = wrong (read-fault f .number)
+
+-- the same of a call whose answer is the state that it leaves
+abbrev pub left-at : {X S : Type 0} → S → Result X ReadFault → Step S
+left-at s (Ok x) = next s
+left-at s (Err f) = wrong (read-fault f .number)
 
 -- a refusal tells its line
 abbrev pub On-line : {X : Type 0} → ℕ → Result X ReadFault → Type 0

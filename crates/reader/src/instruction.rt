@@ -1,13 +1,19 @@
 // What an instruction line means where it stands, and its faults.
 ghost use mathlib.Core.Path.{_≡_};
 ghost use mathlib.Core.Bool.{true, false, _||_};
-ghost use Rattle.domain.specs.Faults.{literal-code, settled-code};
-ghost use Rattle.semantics.specs.Operations.{facts};
-ghost use Rattle.text.specs.Instructions.{known};
+ghost use Rattle.text.specs.Faults.{unless};
+ghost use Rattle.text.specs.Forms.{Written as Spelt};
+ghost use Rattle.text.specs.Instructions.{known, instruction, instruction-fault};
+ghost use Rattle.reader.specs.ReadFaults.{answered, On-line};
 ghost use Rattle.reader.specs.Scopes.{known-names};
-ghost use Rattle.reader.specs.Tokens.{seen};
+ghost use Rattle.reader.specs.Tokens.{seen, Spells};
 ghost use Rattle.reader.specs.Operands.{far, strange, of-operands, some, some-far, some-strange, text-fault, meaning, meaning-if, instruction-of};
+use crate::facts::unwritten_marks;
+use crate::fault::ReadFault;
+use crate::fault::ReadFaultFromDomain;
+use crate::fault::ReadFaultFromText;
 use crate::fault::TextFault;
+use crate::fault::on_line;
 use crate::form::Written;
 use crate::scope::FILLER;
 use crate::scope::Scope;
@@ -16,7 +22,6 @@ use domain::Domain;
 use domain::fault::DomainFault;
 use domain::fault::literal_code;
 use domain::fault::settled_code;
-use domain::marks::Marks;
 use domain::operation::Operation;
 use semantics::Instruction;
 use semantics::Operand;
@@ -126,16 +131,6 @@ fn meaning_if<D: Domain>(
     }
 }
 
-// The marks that an operation bears unwritten: every shift bears range.
-fn unwritten(op: Operation) -> Marks
-    ensures { λ r. ⌜ r .bits ≡ facts op .unwritten ⌝ }
-{
-    match op {
-        Operation::Shl | Operation::Lshr | Operation::Ashr => Marks::RANGE,
-        _ => Marks::NONE,
-    }
-}
-
 // The instruction that a line means.
 fn make<D: Domain>(domain: &D, scope: &Scope, written: &Written) -> Result<Instruction, DomainFault>
     requires { ⌜ some-far (now written) ≡ false ⌝ }
@@ -147,9 +142,25 @@ fn make<D: Domain>(domain: &D, scope: &Scope, written: &Written) -> Result<Instr
     let third = meaning_if(count > 2, domain, scope, written.third)?;
     Ok(Instruction {
         operation: written.operation,
-        marks: unwritten(written.operation).union(written.marks),
+        marks: unwritten_marks(written.operation).union(written.marks),
         first,
         second,
         third,
     })
+}
+
+// The instruction that a line means where it stands, or the smallest of the line's faults.
+pub fn read_instruction<D: Domain>(
+    domain: &D,
+    scope: &Scope,
+    line: u16,
+    too_many: bool,
+    written: &Written,
+) -> Result<Instruction, ReadFault>
+    ensures value { λ r. ⌜ ((s : Spelt) → Spells (now (written .entry)) s → answered r ≡ unless (instruction-fault (D·Domain .model (now (domain .entry))) «too_many» (known-names (now (scope .entry))) s) (instruction (D·Domain .model (now (domain .entry))) (known-names (now (scope .entry))) s)) ⌝ }
+    ensures line { λ r. ⌜ On-line line r ⌝ }
+{
+    on_line(line, well_written(scope, too_many, written))?;
+    let instruction = on_line(line, make(domain, scope, written))?;
+    Ok(instruction)
 }

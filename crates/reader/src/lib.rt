@@ -1,4 +1,5 @@
 // Reads the texts of rules and programs in place.
+pub mod facts;
 pub mod fault;
 pub mod form;
 pub mod instruction;

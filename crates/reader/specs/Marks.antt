@@ -1,0 +1,20 @@
+-- Sets of marks against lists of marks. Assumes nothing.
+use mathlib.Core.Path.{_≡_}
+use mathlib.Core.Bool.{Bool, true}
+use mathlib.Core.List.{List, [], _∷_}
+use Prim.Native.Nat.{ℕ}
+use lib.Bits.{bitAnd}
+use lib.Dec.{ltb}
+use Rattle.semantics.specs.Programs.{has}
+
+-- the number of a mark
+abbrev pub is-mark : ℕ → Bool
+is-mark x = has x (1 ∷ 2 ∷ 4 ∷ 8 ∷ [])
+
+-- whether a set has a mark
+abbrev pub bears : ℕ → ℕ → Bool
+bears set x = ltb 0 (bitAnd set x)
+
+-- a set has the marks of a list, and no others
+abbrev pub Members : ℕ → List ℕ → Type 0
+Members set xs = (x : ℕ) → is-mark x ≡ true → bears set x ≡ has x xs
