@@ -4,3 +4,4 @@ pub mod NameTables
 pub mod Operands
 pub mod Told
 pub mod Borne
+pub mod Readings

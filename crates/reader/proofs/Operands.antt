@@ -131,13 +131,14 @@ module _ (m : Model) (ns : Names) where
   made-told op marks true os = refl
   made-told op marks false os = refl
 
--- a line with no fault of the text's has no number outside
-near-by : (b : Bool) (line : ℕ) (later : Result (Unit {0}) TextFault) (u : Unit {0}) → located line (cond b (Err NumberOutside) later) ≡ Ok u → b ≡ false
-near-by true line later u e = let z : _≡_ {A = ℕ} 0 1 = cc in absurd (omega arith)
-near-by false line later u e = refl
+-- a line with no fault of the text's has no number outside, and is not one too many
+fault-free-by : (b too-many : Bool) (line : ℕ) (later : Result (Unit {0}) TextFault) (u : Unit {0}) → located line (cond b (Err NumberOutside) (cond too-many (Err TooMany) later)) ≡ Ok u → (b ≡ false) × (too-many ≡ false)
+fault-free-by true too-many line later u e = let z : _≡_ {A = ℕ} 0 1 = cc in absurd (omega arith)
+fault-free-by false true line later u e = let z : _≡_ {A = ℕ} 0 1 = cc in absurd (omega arith)
+fault-free-by false false line later u e = (refl, refl)
 
-pub fault-free-near : (too-many : Bool) (ns : Names) (w : Written) (line : ℕ) (u : Unit {0}) (r : Result (Unit {0}) (At TextFault)) → r ≡ located line (text-fault too-many ns w) → r ≡ Ok u → some-far w ≡ false
-fault-free-near too-many ns w line u r is fine = near-by (some-far w) line _ u (sym is ∙ fine)
+pub fault-free : (too-many : Bool) (ns : Names) (w : Written) (line : ℕ) (u : Unit {0}) (r : Result (Unit {0}) (At TextFault)) → r ≡ located line (text-fault too-many ns w) → r ≡ Ok u → (some-far w ≡ false) × (too-many ≡ false)
+fault-free too-many ns w line u r is fine = fault-free-by (some-far w) too-many line _ u (sym is ∙ fine)
 
 -- the smallest fault of a line, or its instruction
 smallest : (outside-one too-many name mark code : Bool) (line : ℕ) (r : Result Instruction DomainFault) (i : Instruction) → (outside-one ≡ false → mark ≡ false → r ≡ cond code (Err NoSettledCode) (Ok i)) → answered (found-on line (cond outside-one (Err NumberOutside) (cond too-many (Err TooMany) (cond name (Err BadName) (cond mark (Err BadMark) (Ok tt))))) r) ≡ unless (first-of outside-one 3 (first-of too-many 4 (first-of name 5 (first-of mark 6 (first-of code 7 None))))) i

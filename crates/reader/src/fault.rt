@@ -67,6 +67,13 @@ pub impl From<At<DomainFault>> for ReadFault as ReadFaultFromDomain {
 }
 
 impl ReadFault {
+    // A fault of the text on a line.
+    pub fn text(line: u16, fault: TextFault) -> ReadFault
+        ensures { λ r. ⌜ r ≡ Text (record { line = line; fault = fault }) ⌝ }
+    {
+        ReadFault::Text(At { line, fault })
+    }
+
     // The number by which a refusal is told.
     pub fn number(self) -> u8
         ensures { λ r. ⌜ r ≡ read-fault self .number ⌝ }

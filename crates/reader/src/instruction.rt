@@ -1,6 +1,7 @@
 // What an instruction line means where it stands, and its faults.
 ghost use mathlib.Core.Path.{_≡_};
 ghost use mathlib.Core.Bool.{true, false, _||_};
+ghost use Rattle.std.specs.Results.{Cases};
 ghost use Rattle.text.specs.Faults.{unless};
 ghost use Rattle.text.specs.Forms.{Written as Spelt};
 ghost use Rattle.text.specs.Instructions.{known, instruction, instruction-fault};
@@ -159,6 +160,7 @@ pub fn read_instruction<D: Domain>(
 ) -> Result<Instruction, ReadFault>
     ensures value { λ r. ⌜ ((s : Spelt) → Spells (now (written .entry)) s → answered r ≡ unless (instruction-fault (D·Domain .model (now (domain .entry))) «too_many» (known-names (now (scope .entry))) s) (instruction (D·Domain .model (now (domain .entry))) (known-names (now (scope .entry))) s)) ⌝ }
     ensures line { λ r. ⌜ On-line line r ⌝ }
+    ensures room { λ r. ⌜ Cases r (λ _. «too_many» ≡ false) (λ _. Unit {0}) ⌝ }
 {
     on_line(line, well_written(scope, too_many, written))?;
     let instruction = on_line(line, make(domain, scope, written))?;

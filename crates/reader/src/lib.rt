@@ -4,5 +4,6 @@ pub mod fault;
 pub mod form;
 pub mod instruction;
 pub mod names;
+pub mod program;
 pub mod scope;
 pub mod token;

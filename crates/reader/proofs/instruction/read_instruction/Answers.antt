@@ -1,17 +1,23 @@
 use mathlib.Core.Path.{_≡_, ap, _∙_}
+use mathlib.Core.Bool.{false}
 use borrow.Author.Needs.{needs}
 use Rattle.std.specs.declared.result.Result.the-variants.{Ok}
 use Rattle.reader.specs.Scopes.{known-names}
 use Rattle.reader.specs.ReadFaults.{located, answered}
-use Rattle.reader.specs.Operands.{text-fault, instruction-of, found-on}
-use Rattle.reader.proofs.Operands.{fault-free-near, line-told}
+use Rattle.reader.specs.Operands.{some-far, text-fault, instruction-of, found-on}
+use Rattle.reader.proofs.Operands.{fault-free, line-told}
+use Rattle.reader.proofs.instruction.read_instruction.Given.{Over}
 use Rattle.reader.proofs.instruction.read_instruction.Needs as need
+use Rattle.reader.proofs.instruction.read_instruction.Needs.{In-Continue-on-line}
 
-pub make-requires : need.make-requires
-make-requires g c κs =
-    fault-free-near (c .args .too-many) (known-names (c .args .scope .now)) (c .args .written .now) (c .args .line) _ (c .on-line .result)
+passed : (g : Over) (c : need.In-Continue-on-line g) → (some-far (c .args .written .now) ≡ false) × (c .args .too-many ≡ false)
+passed g c =
+    fault-free (c .args .too-many) (known-names (c .args .scope .now)) (c .args .written .now) (c .args .line) _ (c .on-line .result)
     (c .on-line .ensures ∙ ap (located (c .args .line)) (c .well-written .ensures))
     (c .in-Continue-on-line .was tt)
+
+pub make-requires : need.make-requires
+make-requires g c κs = passed g c .0
 
 pub returns-in-Break-on-line : need.returns-in-Break-on-line
 returns-in-Break-on-line g c =
@@ -22,6 +28,7 @@ returns-in-Break-on-line g c =
     record {
       value = λ s spells. ap answered is ∙ line-told m ns w s spells (c .args .line) (c .args .too-many);
       line = search needs;
+      room = search needs;
     }
 
 pub returns-in-Break-instruction : need.returns-in-Break-instruction
@@ -33,6 +40,7 @@ returns-in-Break-instruction g c =
     record {
       value = λ s spells. ap answered is ∙ line-told m ns w s spells (c .args .line) (c .args .too-many);
       line = search needs;
+      room = search needs;
     }
 
 pub returns : need.returns
@@ -44,4 +52,5 @@ returns g c =
     record {
       value = λ s spells. ap answered is ∙ line-told m ns w s spells (c .args .line) (c .args .too-many);
       line = search needs;
+      room = passed g (need.at·returns g c .In-Continue-on-line) .1;
     }
