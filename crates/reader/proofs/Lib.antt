@@ -1,7 +1,9 @@
 pub mod Words
 pub mod Shapes
+pub mod ReadFaults
 pub mod NameTables
 pub mod Operands
 pub mod Told
 pub mod Borne
+pub mod Inputs
 pub mod Readings

@@ -1,16 +1,28 @@
 // Reads the text of a program in place, line by line.
 ghost use mathlib.Core.Path.{_≡_};
-ghost use Rattle.text.specs.ProgramTexts.{nothing-read, result-line};
+ghost use mathlib.Core.Bool.{false};
+ghost use mathlib.Core.List.{List, []};
+ghost use Rattle.std.specs.declared.option.Option.the-variants.{Some};
+ghost use Rattle.scan.specs.Pieces.{Bytes, left};
+ghost use Rattle.text.specs.Words.{each, name};
+ghost use Rattle.text.specs.ProgramTexts.{nothing-read, inputs-line, result-line};
+ghost use Rattle.reader.specs.Inputs.{inputs-of, tabled};
 ghost use Rattle.reader.specs.ReadFaults.{left-at, On-line};
+ghost use Rattle.reader.specs.Scopes.{table};
 ghost use Rattle.reader.specs.Readings.{reading-of};
 use crate::fault::ReadFault;
+use crate::fault::ReadFaultFromText;
 use crate::fault::TextFault;
+use crate::fault::on_line;
+use crate::names::Names;
 use crate::program::Reading;
 use crate::program::Section;
 use crate::scope::FILLER;
 use crate::scope::Scope;
+use crate::token::name_of;
 use domain::marks::Marks;
 use domain::operation::Operation;
+use scan::Cursor;
 use semantics::Instruction;
 
 // What stands in the places behind the body.
@@ -22,6 +34,27 @@ const NO_INSTRUCTION: Instruction = Instruction {
     third: FILLER,
 };
 
+// Adds the names of an `in` line to a table: at most eight, and each once.
+fn read_inputs<'a>(names: &mut Names<'a>, mut words: Cursor<'a>) -> Result<(), TextFault>
+    ensures { λ r. ⌜ tabled (table (now (names .exit))) r ≡ inputs-of (table (now (names .entry))) false (left (words .entry)) ⌝ }
+{
+    let mut repeated = false;
+    while let Some(word) = words.next() {
+        if names.len() >= 8 {
+            return Err(TextFault::TooMany);
+        }
+        let Some(name) = name_of(word) else {
+            return Err(TextFault::NoForm);
+        };
+        repeated = repeated || names.has(name);
+        names.push(name);
+    }
+    if repeated {
+        return Err(TextFault::BadName);
+    }
+    Ok(())
+}
+
 impl<'a> Reading<'a> {
     fn new() -> Reading<'a>
         ensures { λ r. ⌜ reading-of r ≡ nothing-read ⌝ }
@@ -32,6 +65,16 @@ impl<'a> Reading<'a> {
             body: [NO_INSTRUCTION; 64],
             result: 0,
         }
+    }
+
+    fn take_inputs(&mut self, line: u16, words: Cursor<'a>) -> Result<(), ReadFault>
+        ensures value { λ r. ⌜ ((ns : List Bytes) → each name (left (words .entry)) ≡ Some ns → left-at (reading-of (now (self .exit))) r ≡ inputs-line (reading-of (now (self .entry))) ns) ⌝ }
+        ensures line { λ r. ⌜ On-line line r ⌝ }
+    {
+        self.scope.variables = Names::new();
+        on_line(line, read_inputs(&mut self.scope.variables, words))?;
+        self.section = Section::Body;
+        Ok(())
     }
 
     // The instruction of a name is the result.
