@@ -5,7 +5,10 @@ ghost use mathlib.Core.List.{List, []};
 ghost use Rattle.std.specs.declared.option.Option.the-variants.{Some};
 ghost use Rattle.scan.specs.Pieces.{Bytes, left};
 ghost use Rattle.text.specs.Words.{each, name};
-ghost use Rattle.text.specs.ProgramTexts.{nothing-read, inputs-line, result-line};
+ghost use Rattle.text.specs.Forms.{Written as Spelt};
+ghost use Rattle.text.specs.ProgramTexts.{nothing-read, inputs-line, body-line, result-line};
+ghost use Rattle.reader.specs.declared.program.Section.the-variants.{Body};
+ghost use Rattle.reader.specs.Tokens.{Spells};
 ghost use Rattle.reader.specs.Inputs.{inputs-of, tabled};
 ghost use Rattle.reader.specs.ReadFaults.{left-at, On-line};
 ghost use Rattle.reader.specs.Scopes.{table};
@@ -14,12 +17,15 @@ use crate::fault::ReadFault;
 use crate::fault::ReadFaultFromText;
 use crate::fault::TextFault;
 use crate::fault::on_line;
+use crate::form::Written;
+use crate::instruction::read_instruction;
 use crate::names::Names;
 use crate::program::Reading;
 use crate::program::Section;
 use crate::scope::FILLER;
 use crate::scope::Scope;
 use crate::token::name_of;
+use domain::Domain;
 use domain::marks::Marks;
 use domain::operation::Operation;
 use scan::Cursor;
@@ -74,6 +80,23 @@ impl<'a> Reading<'a> {
         self.scope.variables = Names::new();
         on_line(line, read_inputs(&mut self.scope.variables, words))?;
         self.section = Section::Body;
+        Ok(())
+    }
+
+    fn take_instruction<D: Domain>(
+        &mut self,
+        domain: &D,
+        line: u16,
+        written: Written<'a>,
+    ) -> Result<(), ReadFault>
+        requires { ⌜ now self .section ≡ Body ⌝ }
+        ensures value { λ r. ⌜ ((s : Spelt) → Spells (written .entry) s → left-at (reading-of (now (self .exit))) r ≡ body-line (D·Domain .model (now (domain .entry))) (reading-of (now (self .entry))) s) ⌝ }
+        ensures line { λ r. ⌜ On-line line r ⌝ }
+    {
+        let place = self.scope.instructions.len();
+        let instruction = read_instruction(domain, &self.scope, line, place >= 64, &written)?;
+        self.body[place] = instruction;
+        self.scope.instructions.push(written.name);
         Ok(())
     }
 
