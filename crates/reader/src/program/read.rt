@@ -5,10 +5,10 @@ ghost use mathlib.Core.List.{List, []};
 ghost use Rattle.std.specs.declared.option.Option.the-variants.{Some};
 ghost use Rattle.scan.specs.Pieces.{Bytes, left};
 ghost use Rattle.text.specs.Words.{each, name};
-ghost use Rattle.text.specs.Forms.{Written as Spelt};
-ghost use Rattle.text.specs.ProgramTexts.{nothing-read, inputs-line, body-line, result-line};
+ghost use Rattle.text.specs.Forms.{Form as Shape, Written as Spelt};
+ghost use Rattle.text.specs.ProgramTexts.{nothing-read, inputs-line, body-line, result-line, program-step};
 ghost use Rattle.reader.specs.declared.program.Section.the-variants.{Body};
-ghost use Rattle.reader.specs.Tokens.{Spells};
+ghost use Rattle.reader.specs.Tokens.{Spells, Forms};
 ghost use Rattle.reader.specs.Inputs.{inputs-of, tabled};
 ghost use Rattle.reader.specs.ReadFaults.{left-at, On-line};
 ghost use Rattle.reader.specs.Scopes.{table};
@@ -17,6 +17,7 @@ use crate::fault::ReadFault;
 use crate::fault::ReadFaultFromText;
 use crate::fault::TextFault;
 use crate::fault::on_line;
+use crate::form::Form;
 use crate::form::Written;
 use crate::instruction::read_instruction;
 use crate::names::Names;
@@ -115,6 +116,21 @@ impl<'a> Reading<'a> {
                 Ok(())
             }
             None => Err(ReadFault::text(line, TextFault::BadName)),
+        }
+    }
+
+    // One line in its section; every other form is out of order there.
+    fn take<D: Domain>(&mut self, domain: &D, line: u16, form: Form<'a>) -> Result<(), ReadFault>
+        ensures value { λ r. ⌜ ((f : Shape) → Forms (form .entry) f → left-at (reading-of (now (self .exit))) r ≡ program-step (D·Domain .model (now (domain .entry))) (reading-of (now (self .entry))) f) ⌝ }
+        ensures line { λ r. ⌜ On-line line r ⌝ }
+    {
+        match (self.section, form) {
+            (Section::Start, Form::In(words)) => self.take_inputs(line, words),
+            (Section::Body, Form::Instruction(written)) => {
+                self.take_instruction(domain, line, written)
+            }
+            (Section::Body, Form::Ret(name)) => self.take_result(line, name),
+            _ => Err(ReadFault::text(line, TextFault::NoForm)),
         }
     }
 }
