@@ -1,16 +1,17 @@
 -- Tokens and forms by what they hold, and not by where that lies. Assumes nothing.
 use mathlib.Core.Path.{_≡_}
-use mathlib.Core.Bool.{Bool, false}
+use mathlib.Core.Bool.{Bool, true, false}
 use mathlib.Core.List.{List, [], _∷_, map}
 use Prim.Native.Nat.{ℕ, suc, min, _≤_}
 use lib.IntN.{ℤ, pos, negsuc, negℤ}
 use lib.Signed.{_≤ℤ_}
 use lib.ListN.{take}
+use Rattle.std.specs.Options.{mapped}
 use Rattle.std.specs.declared.option.Option.{Option}
 use Rattle.std.specs.declared.option.Option.the-variants.{Some, None}
 use Rattle.domain.specs.Names.{operand-count}
-use Rattle.scan.specs.Pieces.{Bytes, left}
-use Rattle.text.specs.Words.{Argument, a-name, a-number, a-code, each, name}
+use Rattle.scan.specs.Pieces.{Bytes, left, first, others}
+use Rattle.text.specs.Words.{Argument, a-name, a-number, a-code, and-then, each, name, argument}
 use Rattle.text.specs.Forms.{Form as Shape, Written as Spelt, rule-line, arrow-line, end-line, in-line, ret-line, instruction-line}
 use Rattle.text.specs.Instructions.{bad-marks, sum}
 use Rattle.reader.specs.declared.token.Token.{Token}
@@ -53,6 +54,15 @@ told (a-code c) = is-code (min c 65536)
 abbrev pub token-of : Option Argument → Bytes → Seen
 token-of (Some a) w = told a
 token-of None w = is-word w
+
+-- what is told of the operand that words begin with; of 0 in a place that is not used
+abbrev pub operand-if : Bool → List Bytes → Option Seen
+operand-if true ws = and-then (first ws) (λ w. mapped told (argument w))
+operand-if false ws = Some (is-number (pos 0))
+
+abbrev pub after-operand : Bool → List Bytes → List Bytes
+after-operand true ws = others ws
+after-operand false ws = ws
 
 -- the operands that an instruction is written with
 abbrev pub tokens : Written → List Seen

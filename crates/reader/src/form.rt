@@ -1,17 +1,23 @@
 // The form of a line.
 ghost use mathlib.Core.Path.{_≡_};
+ghost use mathlib.Core.Bool.{false, cond};
 ghost use lib.Chars.{codes};
 ghost use Rattle.std.specs.Options.{mapped, isSome};
 ghost use Rattle.scan.specs.declared.Separators.the-variants.{SpacesAndCommas};
 ghost use Rattle.scan.specs.Pieces.{left, words};
-ghost use Rattle.text.specs.Words.{each, name};
-ghost use Rattle.text.specs.Forms.{lone, form-of, opens-rule, opens-arrow, opens-end, opens-in, opens-ret};
+ghost use Rattle.domain.specs.Names.{operand-count};
+ghost use Rattle.text.specs.Words.{and-then, each, name};
+ghost use Rattle.text.specs.Forms.{lone, leading-marks, behind-marks, written, form, form-of, opens-rule, opens-arrow, opens-end, opens-in, opens-ret, opens-instruction};
 ghost use Rattle.text.specs.Faults.{no-word, skipped};
-ghost use Rattle.reader.specs.Tokens.{Formed};
+ghost use Rattle.text.specs.Instructions.{bad-marks, sum};
+ghost use Rattle.reader.specs.Marks.{next-mark, after-mark};
+ghost use Rattle.reader.specs.Tokens.{Formed, seen, operand-if, after-operand};
+use crate::facts::permitted_marks;
 use crate::token::Token;
 use crate::token::is_plain_name;
 use crate::token::name_of;
 use domain::marks::Marks;
+use domain::name::is_word;
 use domain::operation::Operation;
 use scan::Cursor;
 use scan::Separators;
@@ -122,4 +128,45 @@ fn ret_form<'a>(words: Cursor<'a>) -> Option<Form<'a>>
 {
     let name = name_of(only_word(words)?)?;
     Some(Form::Ret(name))
+}
+
+// The mark that comes next, which is then behind the cursor. Any other word stays.
+fn next_mark(words: &mut Cursor) -> Option<Marks>
+    ensures value { λ r. ⌜ r ≡ next-mark (left (now (words .entry))) ⌝ }
+    ensures after { λ _. ⌜ left (now (words .exit)) ≡ after-mark (left (now (words .entry))) ⌝ }
+{
+    let mut ahead = *words;
+    let mark = Marks::named(ahead.next()?)?;
+    *words = ahead;
+    Some(mark)
+}
+
+// The marks that come next, and whether one may not stand on the operation or is repeated.
+fn read_marks(op: Operation, words: &mut Cursor) -> (Marks, bool)
+    ensures misused { λ r. ⌜ r .1 ≡ bad-marks op (leading-marks (left (now (words .entry)))) ⌝ }
+    ensures marks { λ r. ⌜ (bad-marks op (leading-marks (left (now (words .entry)))) ≡ false → r .0 .bits ≡ sum (leading-marks (left (now (words .entry))))) ⌝ }
+    ensures after { λ _. ⌜ left (now (words .exit)) ≡ behind-marks (left (now (words .entry))) ⌝ }
+{
+    let permitted = permitted_marks(op);
+    let mut marks = Marks::NONE;
+    let mut misused = false;
+    while let Some(mark) = next_mark(words) {
+        misused |= marks.meets(mark) || !permitted.meets(mark);
+        marks = marks.union(mark);
+    }
+    (marks, misused)
+}
+
+// The operand that comes next; the number 0 in a place that is not used.
+fn operand_if<'a>(used: bool, words: &mut Cursor<'a>) -> Option<Token<'a>>
+    ensures value { λ r. ⌜ mapped seen r ≡ operand-if used (left (now (words .entry))) ⌝ }
+    ensures after { λ _. ⌜ left (now (words .exit)) ≡ after-operand used (left (now (words .entry))) ⌝ }
+{
+    if !used {
+        return Some(Token::Number(0));
+    }
+    match Token::of(words.next()?) {
+        Token::Word(_) => None,
+        token => Some(token),
+    }
 }
