@@ -1,3 +1,4 @@
 pub mod Words
 pub mod Marked
+pub mod Operands
 pub mod Shapes

@@ -3,6 +3,7 @@ use mathlib.Core.Path.{_≡_}
 use mathlib.Core.Bool.{Bool, true, false}
 use mathlib.Core.List.{List, [], _∷_, map}
 use Prim.Native.Nat.{ℕ, suc, min, _≤_}
+use lib.Dec.{ltb}
 use lib.IntN.{ℤ, pos, negsuc, negℤ}
 use lib.Signed.{_≤ℤ_}
 use lib.ListN.{take}
@@ -11,8 +12,9 @@ use Rattle.std.specs.declared.option.Option.{Option}
 use Rattle.std.specs.declared.option.Option.the-variants.{Some, None}
 use Rattle.domain.specs.Names.{operand-count}
 use Rattle.scan.specs.Pieces.{Bytes, left, first, others}
-use Rattle.text.specs.Words.{Argument, a-name, a-number, a-code, and-then, each, name, argument}
+use Rattle.text.specs.Words.{Argument, a-name, a-number, a-code, only-if, and-then, each, name, argument}
 use Rattle.text.specs.Forms.{Form as Shape, Written as Spelt, rule-line, arrow-line, end-line, in-line, ret-line, instruction-line}
+use Rattle.text.specs.Faults.{no-word}
 use Rattle.text.specs.Instructions.{bad-marks, sum}
 use Rattle.reader.specs.declared.token.Token.{Token}
 use Rattle.reader.specs.declared.token.Token.the-variants.{Name, Number, Code, Word}
@@ -64,9 +66,23 @@ abbrev pub after-operand : Bool → List Bytes → List Bytes
 after-operand true ws = others ws
 after-operand false ws = ws
 
+-- the places that are used
+abbrev pub used : ℕ → Seen → Seen → Seen → List Seen
+used count a b c = take count (a ∷ b ∷ c ∷ [])
+
+-- what is told of the operands, where the words are as many operands as the count
+abbrev pub operands : ℕ → List Bytes → Option (List Seen)
+operands count ws =
+    let second = after-operand (ltb 0 count) ws in
+    let third = after-operand (ltb 1 count) second in
+    and-then (operand-if (ltb 0 count) ws)
+    (λ a. and-then (operand-if (ltb 1 count) second)
+    (λ b. and-then (operand-if (ltb 2 count) third)
+    (λ c. only-if (no-word (after-operand (ltb 2 count) third)) (used count a b c))))
+
 -- the operands that an instruction is written with
 abbrev pub tokens : Written → List Seen
-tokens w = take (operand-count (w .operation)) (seen (w .first) ∷ seen (w .second) ∷ seen (w .third) ∷ [])
+tokens w = used (operand-count (w .operation)) (seen (w .first)) (seen (w .second)) (seen (w .third))
 
 -- an instruction line in place against what it spells
 pub record Spells (w : Written) (s : Spelt) : Type 0 where

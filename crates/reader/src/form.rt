@@ -11,7 +11,7 @@ ghost use Rattle.text.specs.Forms.{lone, leading-marks, behind-marks, written, 
 ghost use Rattle.text.specs.Faults.{no-word, skipped};
 ghost use Rattle.text.specs.Instructions.{bad-marks, sum};
 ghost use Rattle.reader.specs.Marks.{next-mark, after-mark};
-ghost use Rattle.reader.specs.Tokens.{Formed, seen, operand-if, after-operand};
+ghost use Rattle.reader.specs.Tokens.{Formed, seen, operand-if, after-operand, used, operands};
 use crate::facts::permitted_marks;
 use crate::token::Token;
 use crate::token::is_plain_name;
@@ -169,4 +169,71 @@ fn operand_if<'a>(used: bool, words: &mut Cursor<'a>) -> Option<Token<'a>>
         Token::Word(_) => None,
         token => Some(token),
     }
+}
+
+// The operands, where the words are as many operands as the count.
+fn read_operands<'a>(count: u8, mut words: Cursor<'a>) -> Option<(Token<'a>, Token<'a>, Token<'a>)>
+    ensures { λ r. ⌜ mapped (λ t. used count (seen (t .0)) (seen (t .1)) (seen (t .2))) r ≡ operands count (left (words .entry)) ⌝ }
+{
+    let first = operand_if(count > 0, &mut words)?;
+    let second = operand_if(count > 1, &mut words)?;
+    let third = operand_if(count > 2, &mut words)?;
+    if !has_ended(words) {
+        return None;
+    }
+    Some((first, second, third))
+}
+
+// `MARK* OPERAND*` after `%NAME = OP`
+fn read_written<'a>(name: &'a [u8], operation: Operation, mut words: Cursor<'a>) -> Option<Form<'a>>
+    ensures { λ r. ⌜ Formed r (written (now (name .entry)) operation (left (words .entry))) ⌝ }
+{
+    let (marks, misused) = read_marks(operation, &mut words);
+    let (first, second, third) = read_operands(operation.operand_count(), words)?;
+    Some(Form::Instruction(Written {
+        name,
+        operation,
+        marks,
+        misused,
+        first,
+        second,
+        third,
+    }))
+}
+
+// `%NAME = OP MARK* OPERAND*`, of which the first word is given
+fn instruction_form<'a>(first: &'a [u8], mut words: Cursor<'a>) -> Option<Form<'a>>
+    ensures { λ r. ⌜ Formed r (form-of opens-instruction (now (first .entry)) (left (words .entry))) ⌝ }
+{
+    let equals = words.next()?;
+    let operation = words.next()?;
+    if !is_word(equals, b"=") {
+        return None;
+    }
+    let name = name_of(first)?;
+    read_written(name, Operation::named(operation)?, words)
+}
+
+// The form of a line, which its first word opens.
+pub fn read_form<'a>(line: &'a [u8]) -> Option<Form<'a>>
+    ensures { λ r. ⌜ Formed r (form (words SpacesAndCommas (now (line .entry)))) ⌝ }
+{
+    let mut words = Cursor::new(line, Separators::SpacesAndCommas);
+    let first = words.next()?;
+    if is_word(first, b"rule") {
+        return rule_form(words);
+    }
+    if is_word(first, b"=>") {
+        return arrow_form(words);
+    }
+    if is_word(first, b"end") {
+        return end_form(words);
+    }
+    if is_word(first, b"in") {
+        return in_form(words);
+    }
+    if is_word(first, b"ret") {
+        return ret_form(words);
+    }
+    instruction_form(first, words)
 }
