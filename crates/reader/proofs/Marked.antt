@@ -1,6 +1,6 @@
 -- The marks of an instruction, read one by one into a set.
 use mathlib.Core.Path.{_≡_, refl, sym, ap, ap₂, subst, _∙_}
-use mathlib.Core.Bool.{Bool, true, false, not, cond, _&&_, _||_}
+use mathlib.Core.Bool.{Bool, true, false, not, cond, _||_}
 use mathlib.Core.List.{List, [], _∷_}
 use mathlib.Core.Logic.{⊎-elim}
 use Prim.Native.Nat.{ℕ, _+_}
@@ -9,7 +9,7 @@ use native.Mathlib.Omega.{arith}
 use lib.Bits.{bitAnd, bitOr, and-zero-l, and-le-l, and-le-r, or-add-and, or-disjoint}
 use lib.Chars.{codes}
 use lib.Dec.{eqb, ltb}
-use Rattle.std.proofs.shelf.Tests.{true≢false, false≢true, cases-bool, eqb-true, ltb-false, or-cases, or-parts, and-parts, and-from}
+use Rattle.std.proofs.shelf.Tests.{true≢false, false≢true, eqb-true, ltb-false, or-cases, and-parts, and-from}
 use Rattle.std.proofs.shelf.Ways.{tells}
 use Rattle.std.specs.declared.option.Option.{Option}
 use Rattle.std.specs.declared.option.Option.the-variants.{Some, None}

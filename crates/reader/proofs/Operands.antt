@@ -19,7 +19,8 @@ use Rattle.text.specs.Forms.{Written, instruction-line, leading-marks, behind-m
 use Rattle.text.specs.Faults.{no-word}
 use Rattle.text.specs.Instructions.{made}
 use Rattle.text.proofs.Tests.{no-some}
-use Rattle.reader.specs.Tokens.{Seen, told, operand-if, operands}
+use Rattle.reader.specs.Tokens.{Seen, told}
+use Rattle.reader.specs.Operands.{operand-if, operands}
 
 -- as many operands as the count, and no further word
 abbrev exactly : ℕ → List Bytes → Option (List Seen)

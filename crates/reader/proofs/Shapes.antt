@@ -2,7 +2,7 @@
 use mathlib.Core.Path.{_≡_, refl, sym, ap, _∙_}
 use mathlib.Core.Bool.{Bool, true, false, cond}
 use mathlib.Core.List.{List, [], _∷_}
-use Prim.Native.Nat.{ℕ, _<_}
+use Prim.Native.Nat.{_<_}
 use native.Mathlib.Omega.{arith}
 use lib.Chars.{codes}
 use lib.ListN.{length}
@@ -14,7 +14,7 @@ use Rattle.domain.specs.declared.operation.Operation.{Operation}
 use Rattle.domain.specs.Names.{same-word, operation-named}
 use Rattle.scan.specs.declared.Separators.{Separators}
 use Rattle.scan.specs.Pieces.{Bytes, words, first, others}
-use Rattle.text.specs.Words.{only-if, and-then, each, name}
+use Rattle.text.specs.Words.{only-if, and-then, name}
 use Rattle.text.specs.Forms.{Form, in-line, Opening, opens-rule, opens-arrow, opens-end, opens-in, opens-ret, opens-instruction, opening, written, form-of, form}
 use Rattle.text.specs.Faults.{no-word}
 use Rattle.text.proofs.Tests.{no-some}

@@ -1,17 +1,17 @@
 // The form of a line.
 ghost use mathlib.Core.Path.{_≡_};
-ghost use mathlib.Core.Bool.{false, cond};
+ghost use mathlib.Core.Bool.{false};
 ghost use lib.Chars.{codes};
 ghost use Rattle.std.specs.Options.{mapped, isSome};
 ghost use Rattle.scan.specs.declared.Separators.the-variants.{SpacesAndCommas};
-ghost use Rattle.scan.specs.Pieces.{left, words};
-ghost use Rattle.domain.specs.Names.{operand-count};
-ghost use Rattle.text.specs.Words.{and-then, each, name};
+ghost use Rattle.scan.specs.Pieces.{left, words as words-by};
+ghost use Rattle.text.specs.Words.{each, name as name-in};
 ghost use Rattle.text.specs.Forms.{lone, leading-marks, behind-marks, written, form, form-of, opens-rule, opens-arrow, opens-end, opens-in, opens-ret, opens-instruction};
 ghost use Rattle.text.specs.Faults.{no-word, skipped};
 ghost use Rattle.text.specs.Instructions.{bad-marks, sum};
 ghost use Rattle.reader.specs.Marks.{next-mark, after-mark};
-ghost use Rattle.reader.specs.Tokens.{Formed, seen, operand-if, after-operand, used, operands};
+ghost use Rattle.reader.specs.Operands.{operand-if, after-operand, used-places, operands};
+ghost use Rattle.reader.specs.Tokens.{Formed, seen};
 use crate::facts::permitted_marks;
 use crate::token::Token;
 use crate::token::is_plain_name;
@@ -47,6 +47,7 @@ pub enum Form<'a> {
     Instruction(Written<'a>),
 }
 
+// Whether no word is left.
 fn has_ended(mut words: Cursor) -> bool
     ensures { λ r. ⌜ r ≡ no-word (left (words .entry)) ⌝ }
 {
@@ -71,8 +72,9 @@ fn only_word<'a>(mut words: Cursor<'a>) -> Option<&'a [u8]>
     Some(word)
 }
 
+// Whether every word is a name.
 fn are_names(mut words: Cursor) -> bool
-    ensures { λ r. ⌜ r ≡ isSome (each name (left (words .entry))) ⌝ }
+    ensures { λ r. ⌜ r ≡ isSome (each name-in (left (words .entry))) ⌝ }
 {
     while let Some(word) = words.next() {
         if name_of(word).is_none() {
@@ -173,7 +175,7 @@ fn operand_if<'a>(used: bool, words: &mut Cursor<'a>) -> Option<Token<'a>>
 
 // The operands, where the words are as many operands as the count.
 fn read_operands<'a>(count: u8, mut words: Cursor<'a>) -> Option<(Token<'a>, Token<'a>, Token<'a>)>
-    ensures { λ r. ⌜ mapped (λ t. used count (seen (t .0)) (seen (t .1)) (seen (t .2))) r ≡ operands count (left (words .entry)) ⌝ }
+    ensures { λ r. ⌜ mapped (λ t. used-places count (seen (t .0)) (seen (t .1)) (seen (t .2))) r ≡ operands count (left (words .entry)) ⌝ }
 {
     let first = operand_if(count > 0, &mut words)?;
     let second = operand_if(count > 1, &mut words)?;
@@ -206,17 +208,18 @@ fn instruction_form<'a>(first: &'a [u8], mut words: Cursor<'a>) -> Option<Form<'
     ensures { λ r. ⌜ Formed r (form-of opens-instruction (now (first .entry)) (left (words .entry))) ⌝ }
 {
     let equals = words.next()?;
-    let operation = words.next()?;
+    let word = words.next()?;
     if !is_word(equals, b"=") {
         return None;
     }
     let name = name_of(first)?;
-    read_written(name, Operation::named(operation)?, words)
+    let operation = Operation::named(word)?;
+    read_written(name, operation, words)
 }
 
-// The form of a line, which its first word opens.
+// The form of a line, if it has one: its first word tells which.
 pub fn read_form<'a>(line: &'a [u8]) -> Option<Form<'a>>
-    ensures { λ r. ⌜ Formed r (form (words SpacesAndCommas (now (line .entry)))) ⌝ }
+    ensures { λ r. ⌜ Formed r (form (words-by SpacesAndCommas (now (line .entry)))) ⌝ }
 {
     let mut words = Cursor::new(line, Separators::SpacesAndCommas);
     let first = words.next()?;
