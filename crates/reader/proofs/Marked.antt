@@ -21,7 +21,7 @@ use Rattle.semantics.specs.Operations.{facts}
 use Rattle.semantics.specs.Programs.{all, has}
 use Rattle.scan.specs.Pieces.{Bytes}
 use Rattle.text.specs.Words.{any}
-use Rattle.text.specs.Forms.{mark-number, mark, mark-before, leading-marks, not-a-mark, behind-marks}
+use Rattle.text.specs.Forms.{mark-number, mark-before, leading-marks, not-a-mark, behind-marks}
 use Rattle.text.specs.Instructions.{repeated, bad-marks, sum}
 use Rattle.text.proofs.Tests.{no-some}
 use Rattle.reader.specs.Marks.{is-mark, bears, Members, next-mark, after-mark}
@@ -110,7 +110,7 @@ misused-more permitted set before x xs ex e =
     regroup false false false false true false r = refl
     regroup false false false false false p r = refl
 
--- from the start that is fault 6
+-- after no mark, those are misused that the rule of texts calls so
 none-before : (xs : List ℕ) → any (bears 0) xs ≡ false
 none-before [] = refl
 none-before (x ∷ xs) = ap₂ _||_ (ap (ltb 0) (and-zero-l x)) (none-before xs)
