@@ -1,8 +1,10 @@
 pub mod Words
+pub mod Marked
+pub mod Operands
 pub mod Shapes
 pub mod ReadFaults
 pub mod NameTables
-pub mod Operands
+pub mod Meanings
 pub mod Told
 pub mod Borne
 pub mod Inputs

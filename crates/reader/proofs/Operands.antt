@@ -1,178 +1,110 @@
--- Instruction lines by their tokens against what they spell. Assumes nothing.
-use mathlib.Core.Path.{_≡_, refl, sym, ap, subst, _∙_}
-use mathlib.Core.Bool.{Bool, true, false, cond, _||_}
+-- Operands read one by one, up to three, against the arguments of a line.
+use mathlib.Core.Path.{_≡_, refl, sym, ap, _∙_}
+use mathlib.Core.Bool.{Bool, true, false}
 use mathlib.Core.List.{List, [], _∷_, map}
-use Prim.Native.Nat.{ℕ, zero, suc, _+_, _≤_}
+use Prim.Native.Nat.{ℕ, zero, suc, _≤_}
 use native.Mathlib.Omega.{arith}
-use lib.Bits.{bitOr}
-use lib.Dec.{ltb, lit≤}
-use lib.ListN.{take}
-use Rattle.std.proofs.shelf.Lists.{take-map}
-use Rattle.std.proofs.shelf.Tests.{or-parts}
+use lib.Dec.{eqb}
+use lib.ListN.{length}
 use Rattle.std.proofs.shelf.Ways.{tells}
-use Rattle.std.specs.declared.option.Option.the-variants.{None}
-use Rattle.std.specs.declared.result.Result.{Result}
-use Rattle.std.specs.declared.result.Result.the-variants.{Ok, Err}
-use Rattle.domain.specs.declared.fault.DomainFault.{DomainFault}
-use Rattle.domain.specs.declared.fault.DomainFault.the-variants.{NoSettledCode}
+use Rattle.std.specs.Options.{mapped}
+use Rattle.std.specs.declared.option.Option.{Option}
+use Rattle.std.specs.declared.option.Option.the-variants.{Some, None}
 use Rattle.domain.specs.declared.operation.Operation.{Operation}
-use Rattle.domain.specs.declared.operation.Operation.the-variants.{Add, Sub, Mul, Shl, Lshr, Ashr, Udiv, Urem, Sdiv, Srem, And, Or, Xor, Eq, Ne, Ult, Ule, Slt, Sle, Copy, Freeze, Select}
-use Rattle.domain.specs.Model.{Model}
 use Rattle.domain.specs.Names.{operand-count}
-use Rattle.semantics.specs.declared.Operand.{Operand}
-use Rattle.semantics.specs.declared.Instruction.{Instruction}
-use Rattle.semantics.specs.Operations.{facts}
-use Rattle.text.specs.Words.{Argument, any}
-use Rattle.text.specs.Forms.{Written as Spelt}
-use Rattle.text.specs.Faults.{first-of, unless}
-use Rattle.text.specs.Instructions.{Names, known, operand, made, instruction, outside, number-outside, unreadable, name-wrong, bad-marks, unsettled, code-missing, instruction-fault, filler, sum}
-use Rattle.reader.specs.declared.fault.TextFault.{TextFault}
-use Rattle.reader.specs.declared.fault.TextFault.the-variants.{NumberOutside, TooMany, BadName, BadMark}
-use Rattle.reader.specs.declared.fault.At.{At}
-use Rattle.reader.specs.declared.form.Written.{Written}
-use Rattle.reader.specs.Tokens.{Seen, seen, told, tokens, Spells}
-use Rattle.reader.specs.ReadFaults.{located, answered}
-use Rattle.reader.specs.Operands.{far, strange, some, some-far, some-strange, text-fault, meaning, meaning-if, and-then, instruction-of, found-on}
-use Rattle.reader.proofs.Told.{far-told, strange-told, meaning-told, some-of-taken}
-use Rattle.reader.proofs.Borne.{borne}
+use Rattle.semantics.proofs.Counts.{reads-count, reads-few}
+use Rattle.scan.specs.Pieces.{Bytes, others}
+use Rattle.text.specs.Words.{Argument, only-if, and-then, each, argument}
+use Rattle.text.specs.Forms.{Written, instruction-line, leading-marks, behind-marks, arguments, written}
+use Rattle.text.specs.Faults.{no-word}
+use Rattle.text.specs.Instructions.{made}
+use Rattle.text.proofs.Tests.{no-some}
+use Rattle.reader.specs.Tokens.{Seen, told}
+use Rattle.reader.specs.Operands.{operand-if, operands}
 
--- what is so of no operand is not so of the third, where there is one
-pub third-not : (n : ℕ) (x y z : Bool) → some (take n (x ∷ y ∷ z ∷ [])) ≡ false → ltb 2 n ≡ true → z ≡ false
-third-not zero x y z h e = grind (arith, tells)
-third-not (suc zero) x y z h e = grind (arith, tells)
-third-not (suc (suc zero)) x y z h e = grind (arith, tells)
-third-not (suc (suc (suc n))) x y z h e = or-parts z _ (or-parts y _ (or-parts x _ h .1) .1) .0
+-- as many operands as the count, and no further word
+abbrev exactly : ℕ → List Bytes → Option (List Seen)
+exactly zero ws = only-if (no-word ws) []
+exactly (suc n) ws = and-then (operand-if true ws) (λ a. mapped (λ l. a ∷ l) (exactly n (others ws)))
 
--- an operation takes one operand to three
-takes : (op : Operation) → (1 ≤ operand-count op) × (operand-count op ≤ 3)
-takes Add = (lit≤ tt, lit≤ tt)
-takes Sub = (lit≤ tt, lit≤ tt)
-takes Mul = (lit≤ tt, lit≤ tt)
-takes Shl = (lit≤ tt, lit≤ tt)
-takes Lshr = (lit≤ tt, lit≤ tt)
-takes Ashr = (lit≤ tt, lit≤ tt)
-takes Udiv = (lit≤ tt, lit≤ tt)
-takes Urem = (lit≤ tt, lit≤ tt)
-takes Sdiv = (lit≤ tt, lit≤ tt)
-takes Srem = (lit≤ tt, lit≤ tt)
-takes And = (lit≤ tt, lit≤ tt)
-takes Or = (lit≤ tt, lit≤ tt)
-takes Xor = (lit≤ tt, lit≤ tt)
-takes Eq = (lit≤ tt, lit≤ tt)
-takes Ne = (lit≤ tt, lit≤ tt)
-takes Ult = (lit≤ tt, lit≤ tt)
-takes Ule = (lit≤ tt, lit≤ tt)
-takes Slt = (lit≤ tt, lit≤ tt)
-takes Sle = (lit≤ tt, lit≤ tt)
-takes Copy = (lit≤ tt, lit≤ tt)
-takes Freeze = (lit≤ tt, lit≤ tt)
-takes Select = (lit≤ tt, lit≤ tt)
+abbrev so-many : ℕ → Option (List Argument) → Option (List Argument)
+so-many n o = and-then o (λ args. only-if (eqb (length args) n) args)
 
--- all answers, or the first refusal
-abbrev gathered : List (Result Operand DomainFault) → Result (List Operand) DomainFault
-gathered [] = Ok []
-gathered (r ∷ rs) = and-then r (λ o. and-then (gathered rs) (λ os. Ok (o ∷ os)))
+exactly-arguments : (n : ℕ) (ws : List Bytes) → exactly n ws ≡ mapped (map told) (so-many n (each argument ws))
+exactly-arguments zero [] = refl
+exactly-arguments zero (w ∷ ws) = go (argument w) (each argument ws)
+  where
+    go : (o : Option Argument) (os : Option (List Argument)) → None ≡ mapped (map told) (so-many 0 (and-then o (λ x. and-then os (λ xs. Some (x ∷ xs)))))
+    go (Some x) (Some xs) = let e : eqb (suc (length xs)) 0 ≡ false = grind (arith, tells) in ap (λ b. mapped (map told) (only-if b (x ∷ xs))) (sym e)
+    go (Some x) None = refl
+    go None os = refl
+exactly-arguments (suc n) [] = let e : eqb 0 (suc n) ≡ false = grind (arith, tells) in ap (λ b. mapped (map told) (only-if b [])) (sym e)
+exactly-arguments (suc n) (w ∷ ws) = go (argument w) (each argument ws) (exactly-arguments n ws)
+  where
+    more : (x : Argument) (xs : List Argument) (b : Bool) → mapped (λ l. told x ∷ l) (mapped (map told) (only-if b xs)) ≡ mapped (map told) (only-if b (x ∷ xs))
+    more x xs true = refl
+    more x xs false = refl
 
-abbrev given : Bool → Result Operand DomainFault → Result Operand DomainFault
-given true r = r
-given false r = Ok filler
+    go : (o : Option Argument) (os : Option (List Argument)) → exactly n ws ≡ mapped (map told) (so-many n os) → and-then (mapped told o) (λ a. mapped (λ l. a ∷ l) (exactly n ws)) ≡ mapped (map told) (so-many (suc n) (and-then o (λ x. and-then os (λ xs. Some (x ∷ xs)))))
+    go None os h = refl
+    go (Some x) None h = ap (mapped (λ l. told x ∷ l)) h
+    go (Some x) (Some xs) h =
+        let e : eqb (length xs) n ≡ eqb (suc (length xs)) (suc n) = grind (arith, tells) in
+        ap (mapped (λ l. told x ∷ l)) h ∙ more x xs (eqb (length xs) n) ∙ ap (λ b. mapped (map told) (only-if b (x ∷ xs))) e
 
--- the places of the operands hold what was gathered
-module _ (op : Operation) (marks : ℕ) where
-  abbrev filled : Result Operand DomainFault → Result Operand DomainFault → Result Operand DomainFault → Result Instruction DomainFault
-  filled r s t =
-      and-then r
-      (λ x. and-then s
-      (λ y. and-then t (λ z. Ok (record { operation = op; marks = record { bits = marks }; first = x; second = y; third = z }))))
+-- three places in a row, of which the first ones are used
+operands-exactly : (n : ℕ) (ws : List Bytes) → n ≤ 3 → operands n ws ≡ exactly n ws
+operands-exactly zero ws h = refl
+operands-exactly (suc zero) ws h = go (operand-if true ws) (no-word (others ws))
+  where
+    go : (o : Option Seen) (b : Bool) → and-then o (λ a. only-if b (a ∷ [])) ≡ and-then o (λ a. mapped (λ l. a ∷ l) (only-if b []))
+    go (Some x) true = refl
+    go (Some x) false = refl
+    go None b = refl
+operands-exactly (suc (suc zero)) ws h = go (operand-if true ws) (operand-if true (others ws)) (no-word (others (others ws)))
+  where
+    go : (o p : Option Seen) (b : Bool) → and-then o (λ a. and-then p (λ x. only-if b (a ∷ x ∷ []))) ≡ and-then o (λ a. mapped (λ l. a ∷ l) (and-then p (λ x. mapped (λ l. x ∷ l) (only-if b []))))
+    go (Some x) (Some y) true = refl
+    go (Some x) (Some y) false = refl
+    go (Some x) None b = refl
+    go None p b = refl
+operands-exactly (suc (suc (suc zero))) ws h = go (operand-if true ws) (operand-if true (others ws)) (operand-if true (others (others ws))) (no-word (others (others (others ws))))
+  where
+    go : (o p q : Option Seen) (b : Bool) → and-then o (λ a. and-then p (λ x. and-then q (λ y. only-if b (a ∷ x ∷ y ∷ [])))) ≡ and-then o (λ a. mapped (λ l. a ∷ l) (and-then p (λ x. mapped (λ l. x ∷ l) (and-then q (λ y. mapped (λ l. y ∷ l) (only-if b []))))))
+    go (Some x) (Some y) (Some z) true = refl
+    go (Some x) (Some y) (Some z) false = refl
+    go (Some x) (Some y) None b = refl
+    go (Some x) None q b = refl
+    go None p q b = refl
+operands-exactly (suc (suc (suc (suc n)))) ws h = absurd (omega arith)
 
-  abbrev from-all : Result (List Operand) DomainFault → Result Instruction DomainFault
-  from-all r = and-then r (λ os. Ok (made op marks os))
+few-operands : (op : Operation) → operand-count op ≤ 3
+few-operands op = let i = made op 0 [] in let a = reads-count i in let b = reads-few i in omega arith
 
-  one : (r : Result Operand DomainFault) → filled r (Ok filler) (Ok filler) ≡ from-all (gathered (r ∷ []))
-  one (Ok x) = refl
-  one (Err f) = refl
+-- what is told of an operation's operands is told of its arguments
+operands-arguments : (op : Operation) (ws : List Bytes) → operands (operand-count op) ws ≡ mapped (map told) (arguments op ws)
+operands-arguments op ws = operands-exactly (operand-count op) ws (few-operands op) ∙ exactly-arguments (operand-count op) ws
 
-  two : (r s : Result Operand DomainFault) → filled r s (Ok filler) ≡ from-all (gathered (r ∷ s ∷ []))
-  two (Ok x) (Ok y) = refl
-  two (Ok x) (Err f) = refl
-  two (Err f) s = refl
+mapped-none : {A B : Type 0} (f : A → B) (o : Option A) → None ≡ mapped f o → o ≡ None
+mapped-none f (Some x) e = absurd (no-some (sym e))
+mapped-none f None e = refl
 
-  three : (r s t : Result Operand DomainFault) → filled r s t ≡ from-all (gathered (r ∷ s ∷ t ∷ []))
-  three (Ok x) (Ok y) (Ok z) = refl
-  three (Ok x) (Ok y) (Err f) = refl
-  three (Ok x) (Err f) t = refl
-  three (Err f) s t = refl
+mapped-some : {A B : Type 0} (f : A → B) (o : Option A) (y : B) → Some y ≡ mapped f o → (x : A) × (o ≡ Some x) × (y ≡ f x)
+mapped-some f (Some x) y e = (x, refl, cc)
+mapped-some f None y e = absurd (no-some e)
 
-  all-filled : (n : ℕ) → 1 ≤ n → n ≤ 3 → (r s t : Result Operand DomainFault) → filled r (given (ltb 1 n) s) (given (ltb 2 n) t) ≡ from-all (gathered (take n (r ∷ s ∷ t ∷ [])))
-  all-filled zero low high r s t = absurd (omega arith)
-  all-filled (suc zero) low high r s t = one r
-  all-filled (suc (suc zero)) low high r s t = two r s
-  all-filled (suc (suc (suc zero))) low high r s t = three r s t
-  all-filled (suc (suc (suc (suc n)))) low high r s t = absurd (omega arith)
+abbrev pub spelt : Bytes → Operation → List Bytes → List Argument → Written
+spelt name op ws args = record { name = name; operation = op; marks = leading-marks ws; arguments = args }
 
-module _ (m : Model) (ns : Names) where
-  given-is : (b : Bool) (t : Seen) → meaning-if b m ns t ≡ given b (meaning m ns t)
-  given-is true t = refl
-  given-is false t = refl
+-- an instruction line from its operands, which stand in `rest`, behind the marks
+module _ (name : Bytes) (op : Operation) (n : ℕ) (ws rest : List Bytes) (count : n ≡ operand-count op) (behind : rest ≡ behind-marks ws) where
+  told-arguments : operands n rest ≡ mapped (map told) (arguments op (behind-marks ws))
+  told-arguments = (λ j. operands (count j) (behind j)) ∙ operands-arguments op (behind-marks ws)
 
-  joined : (b c : Bool) (o : Operand) (os : List Operand) → and-then (cond b (Err NoSettledCode) (Ok o)) (λ x. and-then (cond c (Err NoSettledCode) (Ok os)) (λ xs. Ok (x ∷ xs))) ≡ cond (b || c) (Err NoSettledCode) (Ok (o ∷ os))
-  joined true c o os = refl
-  joined false true o os = refl
-  joined false false o os = refl
+  pub written-none : None ≡ operands n rest → written name op ws ≡ None
+  written-none e = ap (λ o. and-then o (λ args. Some (instruction-line (spelt name op ws args)))) (mapped-none (map told) (arguments op (behind-marks ws)) (e ∙ told-arguments))
 
-  gathered-told : (xs : List Argument) → any outside xs ≡ false → gathered (map (meaning m ns) (map told xs)) ≡ cond (any (unsettled m) xs) (Err NoSettledCode) (Ok (map (operand m ns) xs))
-  gathered-told [] h = refl
-  gathered-told (a ∷ xs) h =
-      let (here, later) = or-parts (outside a) _ h in
-      (λ j. and-then (meaning-told m ns a here j) (λ o. and-then (gathered-told xs later j) (λ os. Ok (o ∷ os))))
-      ∙ joined (unsettled m a) (any (unsettled m) xs) (operand m ns a) (map (operand m ns) xs)
-
-  made-told : (op : Operation) (marks : ℕ) (b : Bool) (os : List Operand) → from-all op marks (cond b (Err NoSettledCode) (Ok os)) ≡ cond b (Err NoSettledCode) (Ok (made op marks os))
-  made-told op marks true os = refl
-  made-told op marks false os = refl
-
--- a line with no fault of the text's has no number outside, and is not one too many
-fault-free-by : (b too-many : Bool) (line : ℕ) (later : Result (Unit {0}) TextFault) (u : Unit {0}) → located line (cond b (Err NumberOutside) (cond too-many (Err TooMany) later)) ≡ Ok u → (b ≡ false) × (too-many ≡ false)
-fault-free-by true too-many line later u e = let z : _≡_ {A = ℕ} 0 1 = cc in absurd (omega arith)
-fault-free-by false true line later u e = let z : _≡_ {A = ℕ} 0 1 = cc in absurd (omega arith)
-fault-free-by false false line later u e = (refl, refl)
-
-pub fault-free : (too-many : Bool) (ns : Names) (w : Written) (line : ℕ) (u : Unit {0}) (r : Result (Unit {0}) (At TextFault)) → r ≡ located line (text-fault too-many ns w) → r ≡ Ok u → (some-far w ≡ false) × (too-many ≡ false)
-fault-free too-many ns w line u r is fine = fault-free-by (some-far w) too-many line _ u (sym is ∙ fine)
-
--- the smallest fault of a line, or its instruction
-smallest : (outside-one too-many name mark code : Bool) (line : ℕ) (r : Result Instruction DomainFault) (i : Instruction) → (outside-one ≡ false → mark ≡ false → r ≡ cond code (Err NoSettledCode) (Ok i)) → answered (found-on line (cond outside-one (Err NumberOutside) (cond too-many (Err TooMany) (cond name (Err BadName) (cond mark (Err BadMark) (Ok tt))))) r) ≡ unless (first-of outside-one 3 (first-of too-many 4 (first-of name 5 (first-of mark 6 (first-of code 7 None))))) i
-smallest true too-many name mark code line r i h = refl
-smallest false true name mark code line r i h = refl
-smallest false false true mark code line r i h = refl
-smallest false false false true code line r i h = refl
-smallest false false false false true line r i h = ap (λ x. answered (found-on line (Ok tt) x)) (h refl refl)
-smallest false false false false false line r i h = ap (λ x. answered (found-on line (Ok tt) x)) (h refl refl)
-
-module _ (m : Model) (ns : Names) (w : Written) (s : Spelt) (spells : Spells w s) where
-  -- what the tokens tell is told of the operands
-  operands-told : (f : Seen → Bool) (g : Argument → Bool) → ((a : Argument) → f (told a) ≡ g a) → some (take (operand-count (w .operation)) (f (seen (w .first)) ∷ f (seen (w .second)) ∷ f (seen (w .third)) ∷ [])) ≡ any g (s .arguments)
-  operands-told f g same = some-of-taken f g same (operand-count (w .operation)) (seen (w .first)) (seen (w .second)) (seen (w .third)) (s .arguments) (spells .operands)
-
-  name-told : (some-strange ns w || known ns (w .name .now)) ≡ name-wrong ns s
-  name-told = (λ j. operands-told (strange ns) (unreadable ns) (strange-told ns) j || known ns (spells .name j))
-
-  marks-told : bad-marks (s .operation) (s .marks) ≡ false → bitOr (facts (w .operation) .unwritten) (w .marks .bits) ≡ facts (s .operation) .unwritten + sum (s .marks)
-  marks-told h = (λ j. bitOr (facts (spells .operation j) .unwritten) (spells .marks h j)) ∙ borne (s .operation) (s .marks) h
-
-  instruction-told : number-outside s ≡ false → bad-marks (s .operation) (s .marks) ≡ false → instruction-of m ns w ≡ cond (code-missing m s) (Err NoSettledCode) (Ok (instruction m ns s))
-  instruction-told near fine =
-      let n = operand-count (w .operation) in
-      let bits = bitOr (facts (w .operation) .unwritten) (w .marks .bits) in
-      let (low, high) = takes (w .operation) in
-      (λ j. filled (w .operation) bits (meaning m ns (seen (w .first))) (given-is m ns (ltb 1 n) (seen (w .second)) j) (given-is m ns (ltb 2 n) (seen (w .third)) j))
-      ∙ all-filled (w .operation) bits n low high (meaning m ns (seen (w .first))) (meaning m ns (seen (w .second))) (meaning m ns (seen (w .third)))
-      ∙ ap (λ rs. from-all (w .operation) bits (gathered rs)) (take-map (meaning m ns) n (seen (w .first) ∷ seen (w .second) ∷ seen (w .third) ∷ []) ∙ ap (map (meaning m ns)) (spells .operands))
-      ∙ ap (from-all (w .operation) bits) (gathered-told m ns (s .arguments) near)
-      ∙ made-told m ns (w .operation) bits (code-missing m s) (map (operand m ns) (s .arguments))
-      ∙ (λ j. cond (code-missing m s) (Err NoSettledCode) (Ok (made (spells .operation j) (marks-told fine j) (map (operand m ns) (s .arguments)))))
-
-  pub line-told : (line : ℕ) (too-many : Bool) → answered (found-on line (text-fault too-many ns w) (instruction-of m ns w)) ≡ unless (instruction-fault m too-many ns s) (instruction m ns s)
-  line-told line too-many =
-      (λ j. answered (found-on line (cond (operands-told far outside far-told j) (Err NumberOutside) (cond too-many (Err TooMany) (cond (name-told j) (Err BadName) (cond (spells .wrong j) (Err BadMark) (Ok tt))))) (instruction-of m ns w)))
-      ∙ smallest (number-outside s) too-many (name-wrong ns s) (bad-marks (s .operation) (s .marks)) (code-missing m s) line (instruction-of m ns w) (instruction m ns s) instruction-told
+  pub written-some : (seen-ones : List Seen) → Some seen-ones ≡ operands n rest → (args : List Argument) × (written name op ws ≡ Some (instruction-line (spelt name op ws args))) × (seen-ones ≡ map told args)
+  written-some seen-ones e =
+      let (args, is, same) = mapped-some (map told) (arguments op (behind-marks ws)) seen-ones (e ∙ told-arguments) in
+      (args, ap (λ o. and-then o (λ args. Some (instruction-line (spelt name op ws args)))) is, same)

@@ -24,7 +24,7 @@ use Rattle.semantics.specs.declared.Operand.the-variants.{Constant}
 use Rattle.text.specs.Words.{Argument, a-name, a-number, a-code, any}
 use Rattle.text.specs.Instructions.{Names, constant, operand, outside, unreadable, refuses, unsettled}
 use Rattle.reader.specs.Tokens.{Seen, is-number, is-code, capped, told}
-use Rattle.reader.specs.Operands.{far, strange, some, constant-of, meaning}
+use Rattle.reader.specs.Meanings.{far, strange, some, constant-of, meaning}
 
 -- a cap above a limit leaves what is over the limit over it
 over-capped : (limit n : ℕ) → limit < 65536 → ltb limit (min n 65536) ≡ ltb limit n

@@ -2,9 +2,8 @@
 use mathlib.Core.Path.{_≡_}
 use mathlib.Core.Bool.{Bool, false}
 use mathlib.Core.List.{List, [], _∷_, map}
-use Prim.Native.Nat.{ℕ, suc, min, _≤_}
+use Prim.Native.Nat.{ℕ, suc, min}
 use lib.IntN.{ℤ, pos, negsuc, negℤ}
-use lib.Signed.{_≤ℤ_}
 use lib.ListN.{take}
 use Rattle.std.specs.declared.option.Option.{Option}
 use Rattle.std.specs.declared.option.Option.the-variants.{Some, None}
@@ -35,13 +34,6 @@ seen (Name t) = is-name (t .now)
 seen (Number z) = is-number z
 seen (Code n) = is-code n
 seen (Word t) = is-word (t .now)
-
--- the bounds that hold of any token's number
-abbrev pub Bounded : Token → Type 0
-Bounded (Name t) = Unit {0}
-Bounded (Number z) = (negsuc 65535 ≤ℤ z) × (z ≤ℤ pos 65536)
-Bounded (Code n) = n ≤ 65536
-Bounded (Word t) = Unit {0}
 
 -- what is told of an operand
 abbrev pub told : Argument → Seen

@@ -8,7 +8,7 @@ ghost use Rattle.text.specs.Instructions.{known, instruction, instruction-fault
 ghost use Rattle.reader.specs.ReadFaults.{answered, On-line};
 ghost use Rattle.reader.specs.Scopes.{known-names};
 ghost use Rattle.reader.specs.Tokens.{seen, Spells};
-ghost use Rattle.reader.specs.Operands.{far, strange, of-operands, some, some-far, some-strange, text-fault, meaning, meaning-if, instruction-of};
+ghost use Rattle.reader.specs.Meanings.{far, strange, of-operands, some, some-far, some-strange, text-fault, meaning, meaning-if, instruction-of};
 use crate::facts::unwritten_marks;
 use crate::fault::ReadFault;
 use crate::fault::ReadFaultFromDomain;

@@ -2,12 +2,11 @@
 ghost use mathlib.Core.Path.{_≡_};
 ghost use mathlib.Core.Bool.{_||_};
 ghost use Prim.Native.Nat.{_≤_};
-ghost use lib.IntN.{pos, negsuc};
-ghost use lib.Signed.{_≤ℤ_};
 ghost use Rattle.std.specs.Options.{mapped, Cases as BySome};
 ghost use Rattle.scan.specs.Numbers.{digit, decimal-of};
 ghost use Rattle.text.specs.Words.{letter, plain, after, name, argument, and-then};
-ghost use Rattle.reader.specs.Tokens.{seen, token-of, Bounded};
+ghost use Rattle.reader.specs.Operands.{Bounded};
+ghost use Rattle.reader.specs.Tokens.{seen, token-of};
 use scan::decimal;
 
 // A word in an operand's place. Numbers beyond 65,536 are told as 65,536, with their sign.

@@ -1,9 +1,9 @@
 use mathlib.Core.Path.{sym, ap, _∙_}
 use lib.Dec.{ltb}
 use Rattle.domain.specs.Names.{operand-count}
-use Rattle.reader.specs.Operands.{far}
+use Rattle.reader.specs.Meanings.{far}
 use Rattle.reader.specs.Tokens.{seen}
-use Rattle.reader.proofs.Operands.{third-not}
+use Rattle.reader.proofs.Meanings.{third-not}
 use Rattle.reader.proofs.instruction.make.Needs as need
 
 pub meaning-if-requires-2 : need.meaning-if-requires-2

@@ -4,8 +4,8 @@ use borrow.Author.Needs.{needs}
 use Rattle.std.specs.declared.result.Result.the-variants.{Ok}
 use Rattle.reader.specs.Scopes.{known-names}
 use Rattle.reader.specs.ReadFaults.{located, answered}
-use Rattle.reader.specs.Operands.{some-far, text-fault, instruction-of, found-on}
-use Rattle.reader.proofs.Operands.{fault-free, line-told}
+use Rattle.reader.specs.Meanings.{some-far, text-fault, instruction-of, found-on}
+use Rattle.reader.proofs.Meanings.{fault-free, line-told}
 use Rattle.reader.proofs.instruction.read_instruction.Given.{Over}
 use Rattle.reader.proofs.instruction.read_instruction.Needs as need
 use Rattle.reader.proofs.instruction.read_instruction.Needs.{In-Continue-on-line}
