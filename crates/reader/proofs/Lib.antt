@@ -9,3 +9,4 @@ pub mod Told
 pub mod Borne
 pub mod Inputs
 pub mod Readings
+pub mod Walked

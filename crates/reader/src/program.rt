@@ -3,6 +3,7 @@ ghost use mathlib.Core.Path.{_≡_};
 ghost use Prim.Native.Nat.{_≤_};
 ghost use lib.ListN.{length};
 use crate::scope::Scope;
+pub use read::read_program;
 use semantics::Instruction;
 
 pub mod read;

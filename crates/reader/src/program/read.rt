@@ -5,22 +5,27 @@ ghost use mathlib.Core.List.{List, []};
 ghost use Rattle.std.specs.declared.option.Option.the-variants.{Some};
 ghost use Rattle.scan.specs.Pieces.{Bytes, left};
 ghost use Rattle.text.specs.Words.{each, name};
+ghost use Rattle.text.specs.Faults.{line-step};
 ghost use Rattle.text.specs.Forms.{Form as Shape, Written as Spelt};
-ghost use Rattle.text.specs.ProgramTexts.{nothing-read, inputs-line, body-line, result-line, program-step};
+ghost use Rattle.text.specs.ProgramTexts.{nothing-read, inputs-line, body-line, result-line, program-step, program-end, read-program};
 ghost use Rattle.reader.specs.declared.program.Section.the-variants.{Body};
 ghost use Rattle.reader.specs.Tokens.{Spells, Forms};
 ghost use Rattle.reader.specs.Inputs.{inputs-of, tabled};
 ghost use Rattle.reader.specs.ReadFaults.{left-at, On-line};
 ghost use Rattle.reader.specs.Scopes.{table};
 ghost use Rattle.reader.specs.Readings.{reading-of};
+ghost use Rattle.reader.specs.Programs.{read-of};
 use crate::fault::ReadFault;
 use crate::fault::ReadFaultFromText;
 use crate::fault::TextFault;
 use crate::fault::on_line;
 use crate::form::Form;
 use crate::form::Written;
+use crate::form::is_skipped;
+use crate::form::read_form;
 use crate::instruction::read_instruction;
 use crate::names::Names;
+use crate::program::ProgramText;
 use crate::program::Reading;
 use crate::program::Section;
 use crate::scope::FILLER;
@@ -30,6 +35,7 @@ use domain::Domain;
 use domain::marks::Marks;
 use domain::operation::Operation;
 use scan::Cursor;
+use scan::split_line;
 use semantics::Instruction;
 
 // What stands in the places behind the body.
@@ -133,4 +139,57 @@ impl<'a> Reading<'a> {
             _ => Err(ReadFault::text(line, TextFault::NoForm)),
         }
     }
+
+    // A line of the text; a skipped one says nothing.
+    fn take_line<D: Domain>(
+        &mut self,
+        domain: &D,
+        number: u16,
+        line: &'a [u8],
+    ) -> Result<(), ReadFault>
+        ensures value { λ r. ⌜ left-at (reading-of (now (self .exit))) r ≡ line-step (program-step (D·Domain .model (now (domain .entry)))) (reading-of (now (self .entry))) (now (line .entry)) ⌝ }
+        ensures line { λ r. ⌜ On-line number r ⌝ }
+    {
+        if is_skipped(line) {
+            return Ok(());
+        }
+        match read_form(line) {
+            Some(form) => self.take(domain, number, form),
+            None => Err(ReadFault::text(number, TextFault::NoForm)),
+        }
+    }
+
+    // The program, where the text has ended behind `ret`.
+    fn finish(&self, number: u16) -> Result<ProgramText, ReadFault>
+        ensures { λ r. ⌜ read-of r ≡ program-end (reading-of (now (self .entry))) number ⌝ }
+    {
+        match self.section {
+            Section::End => Ok(ProgramText {
+                inputs: self.scope.variables.len() as u8,
+                count: self.scope.instructions.len() as u8,
+                body: self.body,
+                result: self.result,
+            }),
+            _ => Err(ReadFault::text(number, TextFault::NoForm)),
+        }
+    }
+}
+
+// The program that a text gives, or the smallest fault of the first line that has one.
+pub fn read_program<D: Domain>(domain: &D, text: &[u8]) -> Result<ProgramText, ReadFault>
+    ensures { λ r. ⌜ read-of r ≡ read-program (D·Domain .model (now (domain .entry))) (now (text .entry)) ⌝ }
+{
+    if text.len() > 4096 {
+        return Err(ReadFault::text(0, TextFault::TooLong));
+    }
+    let mut reading = Reading::new();
+    let mut rest = text;
+    let mut number: u16 = 1;
+    while !rest.is_empty() {
+        let (line, after) = split_line(rest);
+        reading.take_line(domain, number, line)?;
+        rest = after;
+        number += 1;
+    }
+    reading.finish(number)
 }
