@@ -1,0 +1,12 @@
+pub mod Words
+pub mod Marked
+pub mod Operands
+pub mod Shapes
+pub mod ReadFaults
+pub mod NameTables
+pub mod Meanings
+pub mod Told
+pub mod Borne
+pub mod Inputs
+pub mod Readings
+pub mod Walked
