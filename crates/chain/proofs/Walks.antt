@@ -73,7 +73,7 @@ unfolding clear
 clear-from [] ks a = refl
 clear-from (x ∷ xs) ks a = and-from (apart x ks) (clear xs ks) (apart-from x ks (a .0)) (clear-from xs ks (a .1))
 
-chained-to : (links : List ℕ) (first : ℕ) (ks : List ℕ) → chained links first ks ≡ true → Chained links first ks
+pub chained-to : (links : List ℕ) (first : ℕ) (ks : List ℕ) → chained links first ks ≡ true → Chained links first ks
 unfolding chained
 chained-to links first [] e = eqb-true first 0 e
 chained-to links first (k ∷ ks) e =
@@ -83,7 +83,7 @@ chained-to links first (k ∷ ks) e =
     let s = and-parts (apart k ks) (chained links (link links k) ks) (r .1) in
     (eqb-true first k (p .0), leb-true 1 k (q .0), leb-true k (length links) (r .0), apart-to k ks (s .0), chained-to links (link links k) ks (s .1))
 
-chained-from : (links : List ℕ) (first : ℕ) (ks : List ℕ) → Chained links first ks → chained links first ks ≡ true
+pub chained-from : (links : List ℕ) (first : ℕ) (ks : List ℕ) → Chained links first ks → chained links first ks ≡ true
 unfolding chained
 chained-from links first [] c = eq-eqb first 0 c
 chained-from links first (k ∷ ks) c =

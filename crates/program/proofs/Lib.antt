@@ -5,3 +5,4 @@ pub mod Running
 pub mod Freezes
 pub mod Looking
 pub mod Steps
+pub mod Windows

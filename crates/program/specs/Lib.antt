@@ -1,3 +1,4 @@
 pub mod Faults
 pub mod View
 pub mod Steps
+pub mod Windows

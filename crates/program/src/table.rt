@@ -11,6 +11,7 @@ mod evaluating;
 mod loading;
 mod looking;
 mod rewriting;
+pub mod window;
 
 // The instructions of the program are chained from `first` and the free records from `free`: two chains that share no record and
 // together have all.

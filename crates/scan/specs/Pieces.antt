@@ -33,6 +33,17 @@ separates SpacesAndCommas b = eqb b 32 || eqb b 44
 abbrev pub lines : Bytes → List Bytes
 lines text = pieces (separates LineFeeds) text
 
+-- one byte before some lines that keep their ends: it is a line alone where it ends one, or it belongs to the first
+abbrev pub byte-before-whole : Bool → ℕ → List Bytes → List Bytes
+byte-before-whole true b ls = (b ∷ []) ∷ ls
+byte-before-whole false b [] = (b ∷ []) ∷ []
+byte-before-whole false b (l ∷ ls) = (b ∷ l) ∷ ls
+
+-- the lines of a text, each with the byte 10 that ends it, if one does
+abbrev pub whole-lines : Bytes → List Bytes
+whole-lines [] = []
+whole-lines (b ∷ bs) = byte-before-whole (separates LineFeeds b) b (whole-lines bs)
+
 abbrev pub non-empty : List Bytes → List Bytes
 non-empty [] = []
 non-empty ([] ∷ ps) = non-empty ps

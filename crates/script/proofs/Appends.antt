@@ -17,3 +17,7 @@ both-appended x y z a b e h = h ∙ ap (λ l. l ++ b) e ∙ append-assoc x a b
 -- the same piece by another name
 pub appended-is : {X Y : Type 0} (r : Result X Y) (x z a b : List ℕ) → a ≡ b → made r (λ _. z ≡ x ++ a) → made r (λ _. z ≡ x ++ b)
 appended-is r x z a b e h = subst (λ l. made r (λ _. z ≡ x ++ l)) e h
+
+-- one piece of a whole is written, and the others are left
+pub piece-less : (x y a b whole : List ℕ) → y ≡ x ++ a → x ++ (a ++ b) ≡ whole → y ++ b ≡ whole
+piece-less x y a b whole e h = ap (λ l. l ++ b) e ∙ append-assoc x a b ∙ h

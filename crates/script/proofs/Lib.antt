@@ -1,2 +1,4 @@
 pub mod Appends
-pub mod Turns
+pub mod Operands
+pub mod Passing
+pub mod Itemizing

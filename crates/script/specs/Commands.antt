@@ -1,11 +1,10 @@
--- What the lines of a script command. Assumes nothing.
+-- The words of commands: what each command is given. Assumes nothing.
 use mathlib.Core.Bool.{Bool, true, false, cond}
-use mathlib.Core.List.{List, [], _∷_}
+use mathlib.Core.List.{List, [], _∷_, _++_}
 use Prim.Native.Nat.{ℕ, _%_}
 use lib.Bits.{bitOr}
 use lib.Chars.{codes}
 use lib.Dec.{eqb, ltb}
-use lib.ListN.{getD}
 use Rattle.std.specs.declared.option.Option.{Option}
 use Rattle.std.specs.declared.option.Option.the-variants.{Some, None}
 use Rattle.domain.specs.declared.marks.Marks.{Marks}
@@ -13,14 +12,10 @@ use Rattle.domain.specs.declared.operation.Operation.{Operation}
 use Rattle.domain.specs.Names.{same-word, operation-named, operand-count, mark-named}
 use Rattle.pile.specs.declared.Layer.{Layer}
 use Rattle.pile.specs.declared.Layer.the-variants.{None as NoLayer, Trap, Poison}
-use Rattle.scan.specs.declared.Separators.the-variants.{Spaces}
-use Rattle.scan.specs.Pieces.{Bytes, words, first, others}
+use Rattle.scan.specs.Pieces.{Bytes, first, others}
 use Rattle.scan.specs.Numbers.{decimal-of}
 use Rattle.script.specs.declared.command.Blueprint.{Blueprint}
-use Rattle.script.specs.declared.command.Command.{Command}
-use Rattle.script.specs.declared.command.Command.the-variants.{Bench, Compute}
-use Rattle.script.specs.declared.command.Line.{Line}
-use Rattle.script.specs.declared.command.Line.the-variants.{Skipped, Obeyed, Unreadable}
+use Rattle.script.specs.declared.command.Computation.{Computation}
 
 abbrev pub and-then : {A B : Type 0} → Option A → (A → Option B) → Option B
 and-then (Some x) f = f x
@@ -58,66 +53,70 @@ ended [] = true
 ended (w ∷ ws) = false
 
 -- `bench words W LAYER*`, at most three layers from the bottom up
-abbrev pub with-layers : ℕ → List Bytes → Option Command
+abbrev pub with-layers : ℕ → List Bytes → Option Blueprint
 with-layers width ws =
     and-then (layer-at ws)
     (λ bottom. and-then (layer-at (after-layer ws))
     (λ middle. and-then (layer-at (after-layer (after-layer ws)))
-    (λ top. cond (ended (after-layer (after-layer (after-layer ws)))) (Some (Bench (record { width = width; bottom = bottom; middle = middle; top = top }))) None)))
+    (λ top. cond (ended (after-layer (after-layer (after-layer ws)))) (Some (record { width = width; bottom = bottom; middle = middle; top = top })) None)))
 
-abbrev pub bench-words : List Bytes → Option Command
+abbrev pub bench-words : List Bytes → Option Blueprint
 bench-words ws = and-then (first ws) (λ w. and-then (number w) (λ width. with-layers width (others ws)))
 
 -- `bench house W`: the poison layer of all marks over words
-abbrev pub bench-house : List Bytes → Option Command
+abbrev pub bench-house : List Bytes → Option Blueprint
 bench-house ws =
     and-then (first ws)
     (λ w. and-then (number w)
-    (λ width. cond (ended (others ws)) (Some (Bench (record { width = width; bottom = Poison (marks-of 15); middle = NoLayer; top = NoLayer }))) None))
+    (λ width. cond (ended (others ws)) (Some (record { width = width; bottom = Poison (marks-of 15); middle = NoLayer; top = NoLayer })) None))
 
-abbrev pub bench-command : List Bytes → Option Command
+abbrev pub bench-command : List Bytes → Option Blueprint
 bench-command ws =
     and-then (first ws)
     (λ kind. cond (same-word kind (codes "words")) (bench-words (others ws))
     (cond (same-word kind (codes "house")) (bench-house (others ws)) None))
 
 -- `A B` at the end of a `compute`
-abbrev pub two-numbers : Operation → ℕ → Bytes → List Bytes → Option Command
+abbrev pub two-numbers : Operation → ℕ → Bytes → List Bytes → Option Computation
 two-numbers op marks w ws =
     and-then (number w)
     (λ a. and-then (first ws)
     (λ v. and-then (number v)
-    (λ b. cond (ended (others ws)) (Some (Compute op (marks-of marks) a b)) None)))
+    (λ b. cond (ended (others ws)) (Some (record { operation = op; marks = marks-of marks; first = a; second = b })) None)))
 
-abbrev pub by-mark : Option Marks → (ℕ → Option Command) → Option Command → Option Command
+abbrev pub by-mark : Option Marks → (ℕ → Option Computation) → Option Computation → Option Computation
 by-mark (Some m) marked other = marked (m .bits)
 by-mark None marked other = other
 
 -- `MARK* A B`, where a mark given twice counts once
-abbrev pub marked : Operation → ℕ → List Bytes → Option Command
+abbrev pub marked : Operation → ℕ → List Bytes → Option Computation
 marked op marks [] = None
 marked op marks (w ∷ ws) = by-mark (mark-named w) (λ m. marked op (bitOr marks m) ws) (two-numbers op marks w ws)
 
 -- `compute OP MARK* A B` with an operation on two codes
-abbrev pub compute-command : List Bytes → Option Command
+abbrev pub compute-command : List Bytes → Option Computation
 compute-command ws =
     and-then (first ws)
     (λ w. and-then (operation-named w)
     (λ op. cond (eqb (operand-count op) 2) (marked op 0 (others ws)) None))
 
-abbrev pub command-named : Bytes → List Bytes → Option Command
-command-named name ws =
-    cond (same-word name (codes "bench")) (bench-command ws)
-    (cond (same-word name (codes "compute")) (compute-command ws) None)
+-- numbers to the end, after first ones
+abbrev pub numbers : List ℕ → List Bytes → Option (List ℕ)
+numbers ns [] = Some ns
+numbers ns (w ∷ ws) = and-then (number w) (λ n. numbers (ns ++ (n ∷ [])) ws)
 
-abbrev pub obeyed : Option Command → Line
-obeyed (Some c) = Obeyed c
-obeyed None = Unreadable
+-- what a program is evaluated with
+pub record Given : Type 0 where
+  pub inputs : List ℕ
+  pub choices : List ℕ
 
--- a line without a word, or whose first word begins with `#`, is skipped
-abbrev pub commanded : List Bytes → Line
-commanded [] = Skipped
-commanded (w ∷ ws) = cond (eqb (getD w 0 0) 35) Skipped (obeyed (command-named w ws))
+abbrev pub with-choices : List ℕ → List Bytes → Option Given
+with-choices ins ws = and-then (numbers [] ws) (λ cs. Some (record { inputs = ins; choices = cs }))
 
-abbrev pub line-read : Bytes → Line
-line-read line = commanded (words Spaces line)
+-- `INPUT* / CHOICE*`, after first inputs: a second `/` is no number
+abbrev pub with-inputs : List ℕ → List Bytes → Option Given
+with-inputs ins [] = None
+with-inputs ins (w ∷ ws) = cond (same-word w (codes "/")) (with-choices ins ws) (and-then (number w) (λ n. with-inputs (ins ++ (n ∷ [])) ws))
+
+abbrev pub evaluate-command : List Bytes → Option Given
+evaluate-command ws = with-inputs [] ws

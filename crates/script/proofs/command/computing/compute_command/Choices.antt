@@ -2,7 +2,7 @@ use mathlib.Core.Path.{_≡_}
 use lib.ListN.{length}
 use Rattle.scan.specs.Pieces.{left}
 use Rattle.script.specs.Commands.{marked}
-use Rattle.script.proofs.command.compute_command.Given as given
+use Rattle.script.proofs.command.computing.compute_command.Given as given
 
 -- what is left gives the command
 abbrev pub Inv-loop-word : given.InvT-loop-word
