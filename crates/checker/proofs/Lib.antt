@@ -1,2 +1,4 @@
 pub mod Above
 pub mod Walks
+pub mod Sides
+pub mod Searches
