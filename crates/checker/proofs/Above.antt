@@ -111,9 +111,6 @@ module _ (t : ℕ → Bool) (n : ℕ) where
   pub count-meets : (k : ℕ) → t k ≡ true → k < n → length (keep t (from k (n - k))) ≡ suc (length (keep t (from (k + 1) (n - (k + 1)))))
   count-meets k e l = ap length (from-meets k e l) ∙ ap (λ xs. suc (length xs)) (above-passing k ∙ ap (λ j. keep t (from j (n - j))) (sym (add-one k)))
 
-  pub count-none : (k : ℕ) → n ≤ k → length (keep t (from k (n - k))) ≡ 0
-  count-none k l = let z : n - k ≡ 0 = omega arith in ap (λ j. length (keep t (from k j))) z
-
 -- all numbers below n
 pub codes-more : (n c : ℕ) → c + 1 < n → above c (from 0 n) ≡ (c + 1) ∷ above (c + 1) (from 0 n)
 codes-more n c l = subst (λ d. above c d ≡ (c + 1) ∷ above (c + 1) d) (keep-any (from 0 n)) (above-meets (λ _. true) n c refl l)

@@ -15,9 +15,9 @@ use Rattle.semantics.specs.Rules.{Rule, side}
 use Rattle.semantics.specs.declared.Instruction.{Instruction}
 use Rattle.semantics.specs.Cases.{outcome-test, each-of, tuples, none, first, freezes-in, Case, as-case, entries, refutes}
 use Rattle.checker.specs.declared.case.Case.{Case as Held}
-use Rattle.checker.specs.Walks.{above, left, present, sets}
+use Rattle.checker.specs.Walks.{above, left, present, sets, Known, Advanced, first-digits}
 use Rattle.checker.specs.Shown.{allows, case-of}
-use Rattle.checker.proofs.Walks.{length-sets}
+use Rattle.checker.proofs.Walks.{length-sets, all-left}
 
 -- the present list is the first that is left
 begins : (ds : List (List ℕ)) (cs : List ℕ) → length ds ≤ length cs → (rest : List (List ℕ)) × (left ds cs ≡ present ds cs ∷ rest)
@@ -36,16 +36,13 @@ module _ {A : Type 0} (t : A → Bool) (xs : List A) (x : A) (rest : List A) (is
   first-opens : first t xs ≡ cond b (Some x) (first t rest)
   first-opens = ap (first t) is ∙ ap (λ z. cond z (Some x) (first t rest)) (sym told)
 
--- what `advance` ensures of a list and the next, and that the counts of the case are n and f
-abbrev pub Advanced : Model → ℕ → ℕ → List ℕ → List ℕ → Bool → Type 0
-Advanced m n f cs es more = left (sets m n f) cs ≡ present (sets m n f) cs ∷ cond more (left (sets m n f) es) []
-
+-- a case with n variables and f choices
 module _ (m : Model) (n f : ℕ) (c : Held) (p : c .«variable_count» ≡ n) (q : c .«choice_count» ≡ f) where
-  advanced : (es : List ℕ) (more : Bool) → Advanced m (c .«variable_count») (c .«choice_count») (c .digits) es more → Advanced m n f (c .digits) es more
-  advanced es more h = subst (λ ds. left ds (c .digits) ≡ present ds (c .digits) ∷ cond more (left ds es) []) (λ i. sets m (p i) (q i)) h
+  advanced : (es : List ℕ) (more : Bool) → Advanced (sets m (c .«variable_count») (c .«choice_count»)) (c .digits) es more → Advanced (sets m n f) (c .digits) es more
+  advanced es more h = subst (λ ds. Advanced ds (c .digits) es more) (λ i. sets m (p i) (q i)) h
 
   -- one list fewer is left
-  pub fewer : (es : List ℕ) → Advanced m (c .«variable_count») (c .«choice_count») (c .digits) es true → length (left (sets m n f) es) < length (left (sets m n f) (c .digits))
+  pub fewer : (es : List ℕ) → Advanced (sets m (c .«variable_count») (c .«choice_count»)) (c .digits) es true → length (left (sets m n f) es) < length (left (sets m n f) (c .digits))
   fewer es h = omega (arith, ap length (advanced es true h))
 
   -- the present list is the first
@@ -59,6 +56,12 @@ module _ (m : Model) (n f : ℕ) (c : Held) (p : c .«variable_count» ≡ n) (q
   back : drop n (present (sets m n f) (c .digits)) ≡ case-of c .choices
   back = ap (λ k. drop n (take k (c .digits))) (length-sets m n f) ∙ drop-take n f (c .digits) ∙ sym (λ i. take (q i) (drop (p i) (c .digits)))
 
+-- at the first list all are left
+pub starts :
+    (m : Model) (last least n f : ℕ) (c : Held) → Known m last least → c .«variable_count» ≡ n → c .«choice_count» ≡ f → c .digits ≡ first-digits n least →
+    left (sets m n f) (c .digits) ≡ tuples (sets m n f)
+starts m last least n f c k p q e = ap (left (sets m n f)) e ∙ all-left m last least n f k (omega (arith, p, c .«few_variables»)) (omega (arith, q, c .«few_choices»))
+
 -- the choices of a source: those that are left decide
 module _ (m : Model) (ours : Outcome) (source : List Instruction) (vars : List ℕ) (f : ℕ) (c : Held) (p : c .«variable_count» ≡ 0) (q : c .«choice_count» ≡ f) (whole : Bool)
     (inv : none (allows m ours source vars) (left (sets m 0 f) (c .digits)) ≡ whole) (theirs : Outcome) (ds : List ℕ)
@@ -70,7 +73,7 @@ module _ (m : Model) (ours : Outcome) (source : List Instruction) (vars : List �
   matched test = let (rest, e) = now-first m 0 f c p q in sym (none-opens (allows m ours source vars) _ _ rest e true (tried true test)) ∙ inv
 
   pub missed :
-      (more : Bool) (es : List ℕ) → Advanced m (c .«variable_count») (c .«choice_count») (c .digits) es more → false ≡ outcome-test m ours theirs →
+      (more : Bool) (es : List ℕ) → Advanced (sets m (c .«variable_count») (c .«choice_count»)) (c .digits) es more → false ≡ outcome-test m ours theirs →
       none (allows m ours source vars) (cond more (left (sets m 0 f) es) []) ≡ whole
   missed more es h test = sym (none-opens (allows m ours source vars) _ _ _ (advanced m 0 f c p q es more h) false (tried false test)) ∙ inv
 
@@ -86,7 +89,7 @@ module _ (m : Model) (r : Rule) (c : Held) (p : c .«variable_count» ≡ r .var
       ap Some here ∙ sym (first-opens (refutes m r) _ _ (map (as-case r) rest) (ap (map (as-case r)) e) true (test ∙ ap (refutes m r) here)) ∙ inv
 
   pub passed :
-      (more : Bool) (es : List ℕ) → Advanced m (c .«variable_count») (c .«choice_count») (c .digits) es more → false ≡ refutes m r (case-of c) →
+      (more : Bool) (es : List ℕ) → Advanced (sets m (c .«variable_count») (c .«choice_count»)) (c .digits) es more → false ≡ refutes m r (case-of c) →
       first (refutes m r) (map (as-case r) (cond more (left (entries m r) es) [])) ≡ whole
   passed more es h test =
       sym (first-opens (refutes m r) _ _ _ (ap (map (as-case r)) (advanced m (r .variables) (freezes-in (r .target)) c p q es more h)) false (test ∙ ap (refutes m r) here)) ∙ inv

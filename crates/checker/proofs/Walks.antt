@@ -11,7 +11,7 @@ use Rattle.std.proofs.shelf.Lists.{drop-more, drop-all, drop-set, take-set, tak
 use Rattle.std.proofs.shelf.Tests.{cases-lt, lt-ltb, le-ltb}
 use Rattle.domain.specs.Model.{Model}
 use Rattle.semantics.specs.Cases.{codes, settled-codes, each-of, tuples}
-use Rattle.checker.specs.Walks.{above, left, present, set-of, sets, Known}
+use Rattle.checker.specs.Walks.{above, left, present, set-of, sets, Known, Advanced, first-digits}
 use Rattle.checker.proofs.Above.{codes-first}
 
 -- the lists that begin with one of some entries
@@ -134,7 +134,7 @@ module _ (m : Model) (n f : ℕ) where
 
     pub turn-on :
         (x : ℕ) → above (getD new (place - 1) 0) (set-of m (ltb (place - 1) n2)) ≡ x ∷ above x (set-of m (ltb (place - 1) n2)) →
-        left (sets m n f) old ≡ present (sets m n f) old ∷ left (sets m n f) (set new (place - 1) x)
+        Advanced (sets m n f) old (set new (place - 1) x) true
     turn-on x more = let k = length-sets in goes-on (sets m n f) old new (place - 1) (set-of m (ltb (place - 1) n2)) (getD new (place - 1) 0) (omega arith) (omega arith) at-place refl before x more
 
     pub turn-back :
@@ -153,11 +153,15 @@ choices-first d x least zero k l = refl
 choices-first d x least (suc f) zero l = absurd (omega arith)
 choices-first d x least (suc f) (suc k) l = entry-first d (replicate f d) x (replicate k x) least (choices-first d x least f k (omega arith))
 
-pub entries-first :
+entries-first :
     (a d : List ℕ) (w x : ℕ) → a ≡ w ∷ above w a → d ≡ x ∷ above x d → (n f k : ℕ) → f ≤ k →
     left (replicate n a ++ replicate f d) (replicate n w ++ replicate k x) ≡ tuples (replicate n a ++ replicate f d)
 entries-first a d w x p q zero f k l = choices-first d x q f k l
 entries-first a d w x p q (suc n) f k l = entry-first a (replicate n a ++ replicate f d) w (replicate n w ++ replicate k x) p (entries-first a d w x p q n f k l)
+
+-- so is the first list
+pub all-left : (m : Model) (last least n f : ℕ) → Known m last least → n ≤ 4 → f ≤ 8 → left (sets m n f) (first-digits n least) ≡ tuples (sets m n f)
+all-left m last least n f k few-free few-choices = entries-first (codes m) (settled-codes m) 0 least (set-first m last least k true) (set-first m last least k false) n f (12 - n) (omega arith)
 
 -- one more of the front entries written
 pub front-more : (w x i k : ℕ) → 0 < k → set (replicate i w ++ replicate k x) i w ≡ replicate (i + 1) w ++ replicate (k - 1) x

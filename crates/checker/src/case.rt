@@ -1,11 +1,8 @@
 // A case of a rule, and the next one.
 ghost use mathlib.Core.Path.{_≡_};
-ghost use mathlib.Core.Bool.{cond};
-ghost use mathlib.Core.List.{[], _∷_};
 ghost use Prim.Native.Nat.{_≤_};
 ghost use lib.ListN.{length, take, drop};
-ghost use Rattle.semantics.specs.Cases.{tuples};
-ghost use Rattle.checker.specs.Walks.{sets, left, present, Known};
+ghost use Rattle.checker.specs.Walks.{sets, Advanced, Known, first-digits};
 use crate::bounds::Bounds;
 use domain::Domain;
 
@@ -37,16 +34,10 @@ impl Case {
     }
 
     // The first case in the order.
-    pub(crate) fn first<D: Domain>(
-        domain: &D,
-        bounds: Bounds,
-        variable_count: u8,
-        choice_count: u8,
-    ) -> Self
-        requires known { ⌜ Known (D·Domain .model (now domain)) (bounds .last) (bounds .least) ⌝ }
+    pub(crate) fn first(bounds: Bounds, variable_count: u8, choice_count: u8) -> Self
         requires variables { ⌜ «variable_count» ≤ 4 ⌝ }
         requires choices { ⌜ «choice_count» ≤ 8 ⌝ }
-        ensures all { λ r. ⌜ left (sets (D·Domain .model (now (domain .entry))) «variable_count» «choice_count») (r .digits) ≡ tuples (sets (D·Domain .model (now (domain .entry))) «variable_count» «choice_count») ⌝ }
+        ensures digits { λ r. ⌜ r .digits ≡ first-digits «variable_count» (bounds .least) ⌝ }
         ensures variables { λ r. ⌜ r .«variable_count» ≡ «variable_count» ⌝ }
         ensures choices { λ r. ⌜ r .«choice_count» ≡ «choice_count» ⌝ }
     {
@@ -64,7 +55,7 @@ impl Case {
     // Goes on to the next case, the last entry fastest. False where there is none.
     pub(crate) fn advance<D: Domain>(&mut self, domain: &D, bounds: Bounds) -> bool
         requires { ⌜ Known (D·Domain .model (now domain)) (bounds .last) (bounds .least) ⌝ }
-        ensures rest { λ r. ⌜ left (sets (D·Domain .model (now (domain .entry))) (now (self .entry) .«variable_count») (now (self .entry) .«choice_count»)) (now (self .entry) .digits) ≡ present (sets (D·Domain .model (now (domain .entry))) (now (self .entry) .«variable_count») (now (self .entry) .«choice_count»)) (now (self .entry) .digits) ∷ cond r (left (sets (D·Domain .model (now (domain .entry))) (now (self .entry) .«variable_count») (now (self .entry) .«choice_count»)) (now (self .exit) .digits)) [] ⌝ }
+        ensures rest { λ r. ⌜ Advanced (sets (D·Domain .model (now (domain .entry))) (now (self .entry) .«variable_count») (now (self .entry) .«choice_count»)) (now (self .entry) .digits) (now (self .exit) .digits) r ⌝ }
         ensures variables { λ _. ⌜ now (self .exit) .«variable_count» ≡ now (self .entry) .«variable_count» ⌝ }
         ensures choices { λ _. ⌜ now (self .exit) .«choice_count» ≡ now (self .entry) .«choice_count» ⌝ }
     {

@@ -2,9 +2,9 @@
 ghost use mathlib.Core.Path.{_≡_};
 ghost use Prim.Native.Nat.{_≤_};
 ghost use lib.ListN.{length, replicate};
-ghost use Rattle.semantics.specs.Cases.{tuples, settled-codes, none, freezes-in, refutes, first-refuting};
+ghost use Rattle.semantics.specs.Cases.{tuples, settled-codes, none, freezes-in, refutes, first-refuting, Search-exact};
 ghost use Rattle.semantics.specs.Held.{rule-of};
-ghost use Rattle.checker.specs.Walks.{left, Known};
+ghost use Rattle.checker.specs.Walks.{Known, first-digits};
 ghost use Rattle.checker.specs.Shown.{allows, case-of, found};
 use crate::bounds::Bounds;
 use crate::case::Case;
@@ -28,7 +28,7 @@ fn unmatched<D: Domain>(
     requires known { ⌜ Known (D·Domain .model (now domain)) (bounds .last) (bounds .least) ⌝ }
     requires source { ⌜ length (now source) ≤ 8 ⌝ }
     requires alone { ⌜ choices .«variable_count» ≡ 0 ⌝ }
-    requires all { ⌜ left (replicate (choices .«choice_count») (settled-codes (D·Domain .model (now domain)))) (choices .digits) ≡ tuples (replicate (choices .«choice_count») (settled-codes (D·Domain .model (now domain)))) ⌝ }
+    requires digits { ⌜ choices .digits ≡ first-digits 0 (bounds .least) ⌝ }
     ensures { λ r. ⌜ r ≡ none (allows (D·Domain .model (now (domain .entry))) ours (now (source .entry)) (now (variables .entry))) (tuples (replicate (choices .«choice_count») (settled-codes (D·Domain .model (now (domain .entry)))))) ⌝ }
 {
     loop {
@@ -47,7 +47,7 @@ fn refutes<D: Domain>(domain: &D, bounds: Bounds, rule: &Rule, case: &Case, choi
     requires known { ⌜ Known (D·Domain .model (now domain)) (bounds .last) (bounds .least) ⌝ }
     requires alone { ⌜ choices .«variable_count» ≡ 0 ⌝ }
     requires count { ⌜ choices .«choice_count» ≡ freezes-in (rule-of (now rule) .source) ⌝ }
-    requires all { ⌜ left (replicate (choices .«choice_count») (settled-codes (D·Domain .model (now domain)))) (choices .digits) ≡ tuples (replicate (choices .«choice_count») (settled-codes (D·Domain .model (now domain)))) ⌝ }
+    requires digits { ⌜ choices .digits ≡ first-digits 0 (bounds .least) ⌝ }
     ensures { λ r. ⌜ r ≡ refutes (D·Domain .model (now (domain .entry))) (rule-of (now (rule .entry))) (case-of (now (case .entry))) ⌝ }
 {
     let ours = run_side(domain, rule.target(), case.variables(), case.choices());
@@ -63,12 +63,12 @@ fn refutes<D: Domain>(domain: &D, bounds: Bounds, rule: &Rule, case: &Case, choi
 
 // The first case that refutes a rule, if any does.
 pub fn first_refuting<D: Domain>(domain: &D, rule: &Rule) -> Option<Case>
-    ensures { λ r. ⌜ found r ≡ first-refuting (D·Domain .model (now (domain .entry))) (rule-of (now (rule .entry))) ⌝ }
+    ensures value { λ r. ⌜ found r ≡ first-refuting (D·Domain .model (now (domain .entry))) (rule-of (now (rule .entry))) ⌝ }
+    ensures exact { λ _. ⌜ Search-exact (D·Domain .model (now (domain .entry))) (rule-of (now (rule .entry))) ⌝ }
 {
     let bounds = Bounds::of(domain);
-    let choices = Case::first(domain, bounds, 0, count_freezes(rule.source()));
-    let freezes = count_freezes(rule.target());
-    let mut case = Case::first(domain, bounds, rule.variables(), freezes);
+    let choices = Case::first(bounds, 0, count_freezes(rule.source()));
+    let mut case = Case::first(bounds, rule.variables(), count_freezes(rule.target()));
     loop {
         if refutes(domain, bounds, rule, &case, choices) {
             return Some(case);

@@ -2,13 +2,15 @@ use mathlib.Core.Path.{refl, ap, _∙_}
 use mathlib.Core.Bool.{true, false}
 use Rattle.semantics.specs.Cases.{none}
 use Rattle.checker.specs.Shown.{allows}
-use Rattle.checker.proofs.Searches.{fewer, matched, missed}
+use Rattle.checker.proofs.Searches.{starts, fewer, matched, missed}
 use Rattle.checker.proofs.search.unmatched.Needs as need
 
 pub loop-bounds-holds : need.loop-bounds-holds
 loop-bounds-holds g c =
     let m = g .D·Domain .model (c .args .domain .now) in
-    (c .pre .alone, refl, ap (none (allows m (c .args .ours) (c .args .source .now) (c .args .variables .now))) (c .pre .all))
+    let b = c .args .bounds in
+    let cs = c .args .choices in
+    (c .pre .alone, refl, ap (none (allows m (c .args .ours) (c .args .source .now) (c .args .variables .now))) (starts m (b .last) (b .least) 0 (cs .«choice_count») cs (c .pre .known) (c .pre .alone) refl (c .pre .digits)))
 
 pub returns-then-outcome-refines : need.returns-then-outcome-refines
 returns-then-outcome-refines g c =
