@@ -1,7 +1,7 @@
 -- A side run one instruction after the other, and its freezes counted. Assumes nothing.
 use mathlib.Core.Path.{_≡_, sym, ap, _∙_}
-use mathlib.Core.Bool.{Bool, true, false, cond}
-use mathlib.Core.List.{List, [], _∷_}
+use mathlib.Core.Bool.{true, false, cond}
+use mathlib.Core.List.{List}
 use Prim.Native.Nat.{ℕ, suc, _+_, _<_, _≤_}
 use native.Mathlib.Numerals.{add-one}
 use native.Mathlib.Omega.{arith}
@@ -10,7 +10,7 @@ use Rattle.std.proofs.shelf.Lists.{drop-more, drop-all}
 use Rattle.domain.specs.Model.{Model}
 use Rattle.domain.specs.declared.Outcome.{Outcome}
 use Rattle.domain.specs.declared.Outcome.the-variants.{Code, Trap}
-use Rattle.semantics.specs.Programs.{put, value, step, is-freeze, head, left, and-then, run, freezes}
+use Rattle.semantics.specs.Programs.{put, value, step, is-freeze, left, and-then, run, freezes}
 use Rattle.semantics.specs.Rules.{numbered}
 use Rattle.semantics.specs.Values.{env}
 use Rattle.semantics.specs.declared.Instruction.{Instruction}

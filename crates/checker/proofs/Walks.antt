@@ -7,7 +7,7 @@ use Prim.Native.Nat.{ℕ, zero, suc, _+_, _-_, _<_, _≤_}
 use native.Mathlib.Omega.{arith}
 use lib.Dec.{ltb}
 use lib.ListN.{length, getD, set, take, drop, replicate}
-use Rattle.std.proofs.shelf.Lists.{drop-more, drop-all, drop-set, take-set, take-more-same, length-append, length-replicate, length-set, getD-append-left, getD-append-right, getD-replicate, take-take, getD-take, set-append-right, append-assoc, replicate-more}
+use Rattle.std.proofs.shelf.Lists.{drop-more, drop-all, drop-set, take-set, length-append, length-replicate, length-set, getD-append-left, getD-append-right, getD-replicate, take-take, getD-take, set-append-right, append-assoc, replicate-more}
 use Rattle.std.proofs.shelf.Tests.{cases-lt, lt-ltb, le-ltb}
 use Rattle.domain.specs.Model.{Model}
 use Rattle.semantics.specs.Cases.{codes, settled-codes, each-of, tuples}

@@ -1,7 +1,6 @@
 use mathlib.Core.Path.{_≡_, sym}
 use Prim.Native.Nat.{ℕ, _-_, _<_}
 use native.Mathlib.Omega.{arith}
-use lib.Dec.{T}
 use Rattle.domain.specs.Model.{Model, Lawful}
 use Rattle.semantics.specs.Cases.{from, keep, settled-codes}
 use Rattle.checker.proofs.Above.{first-none, first-misses, first-meets, some-left, settled-some}

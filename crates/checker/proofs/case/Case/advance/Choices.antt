@@ -1,5 +1,3 @@
-use Prim.Native.Nat.{_≤_}
-use lib.ListN.{length}
 use mathlib.Core.Path.{_≡_}
 use Rattle.checker.specs.Walks.{sets}
 use Rattle.checker.proofs.Walks.{Carried}
