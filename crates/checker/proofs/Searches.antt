@@ -13,7 +13,7 @@ use Rattle.domain.specs.declared.Outcome.{Outcome}
 use Rattle.semantics.specs.Programs.{outcome}
 use Rattle.semantics.specs.Rules.{Rule, side}
 use Rattle.semantics.specs.declared.Instruction.{Instruction}
-use Rattle.semantics.specs.Cases.{outcome-test, each-of, tuples, none, first, freezes-in, Case, as-case, entries, refutes}
+use Rattle.semantics.specs.Cases.{outcome-refining, each-of, tuples, none, first, freezes-in, Case, as-case, entries, refutes}
 use Rattle.checker.specs.declared.case.Case.{Case as Held}
 use Rattle.checker.specs.Walks.{above, left, present, sets, Known, Advanced, first-digits}
 use Rattle.checker.specs.Shown.{allows, case-of}
@@ -66,14 +66,14 @@ starts m last least n f c k p q e = ap (left (sets m n f)) e ∙ all-left m last
 module _ (m : Model) (ours : Outcome) (source : List Instruction) (vars : List ℕ) (f : ℕ) (c : Held) (p : c .«variable_count» ≡ 0) (q : c .«choice_count» ≡ f) (whole : Bool)
     (inv : none (allows m ours source vars) (left (sets m 0 f) (c .digits)) ≡ whole) (theirs : Outcome) (ds : List ℕ)
     (is : ds ≡ case-of c .choices) (run : theirs ≡ outcome m (side (length vars) source) vars ds) where
-  tried : (b : Bool) → b ≡ outcome-test m ours theirs → b ≡ allows m ours source vars (present (sets m 0 f) (c .digits))
-  tried b test = test ∙ ap (outcome-test m ours) run ∙ ap (allows m ours source vars) (is ∙ sym (back m 0 f c p q))
+  tried : (b : Bool) → b ≡ outcome-refining m ours theirs → b ≡ allows m ours source vars (present (sets m 0 f) (c .digits))
+  tried b test = test ∙ ap (outcome-refining m ours) run ∙ ap (allows m ours source vars) (is ∙ sym (back m 0 f c p q))
 
-  pub matched : true ≡ outcome-test m ours theirs → false ≡ whole
+  pub matched : true ≡ outcome-refining m ours theirs → false ≡ whole
   matched test = let (rest, e) = now-first m 0 f c p q in sym (none-opens (allows m ours source vars) _ _ rest e true (tried true test)) ∙ inv
 
   pub missed :
-      (more : Bool) (es : List ℕ) → Advanced (sets m (c .«variable_count») (c .«choice_count»)) (c .digits) es more → false ≡ outcome-test m ours theirs →
+      (more : Bool) (es : List ℕ) → Advanced (sets m (c .«variable_count») (c .«choice_count»)) (c .digits) es more → false ≡ outcome-refining m ours theirs →
       none (allows m ours source vars) (cond more (left (sets m 0 f) es) []) ≡ whole
   missed more es h test = sym (none-opens (allows m ours source vars) _ _ _ (advanced m 0 f c p q es more h) false (tried false test)) ∙ inv
 

@@ -9,13 +9,13 @@ use Rattle.domain.specs.Model.{Model}
 use Rattle.domain.specs.declared.Outcome.{Outcome}
 use Rattle.semantics.specs.Programs.{outcome}
 use Rattle.semantics.specs.Rules.{side}
-use Rattle.semantics.specs.Cases.{Case, outcome-test}
+use Rattle.semantics.specs.Cases.{Case, outcome-refining}
 use Rattle.semantics.specs.declared.Instruction.{Instruction}
 use Rattle.checker.specs.declared.case.Case.{Case as Held}
 
 -- a list of choices lets an outcome refine the source's
 abbrev pub allows : Model → Outcome → List Instruction → List ℕ → List ℕ → Bool
-allows m ours source vars ds = outcome-test m ours (outcome m (side (length vars) source) vars ds)
+allows m ours source vars ds = outcome-refining m ours (outcome m (side (length vars) source) vars ds)
 
 -- the digits in use: those of the variables, then those of the choices
 abbrev pub case-of : Held → Case

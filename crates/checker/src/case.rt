@@ -52,7 +52,7 @@ impl Case {
         }
     }
 
-    // Goes on to the next case, the last entry fastest. False where there is none.
+    // Goes on to the next case: the last entry that can takes its next code, and those behind it their first. False where none can.
     pub(crate) fn advance<D: Domain>(&mut self, domain: &D, bounds: Bounds) -> bool
         requires { ⌜ Known (D·Domain .model (now domain)) (bounds .last) (bounds .least) ⌝ }
         ensures rest { λ r. ⌜ Advanced (sets (D·Domain .model (now (domain .entry))) (now (self .entry) .«variable_count») (now (self .entry) .«choice_count»)) (now (self .entry) .digits) (now (self .exit) .digits) r ⌝ }

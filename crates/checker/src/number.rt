@@ -1,4 +1,4 @@
-// The case number of a rule, as far as it is allowed to go.
+// The case number of a rule against the limit.
 ghost use mathlib.Core.Path.{_≡_};
 ghost use Prim.Native.Nat.{_*_, _^_, _<_, _≤_};
 ghost use lib.Dec.{ltb};
@@ -9,6 +9,7 @@ use crate::side::count_freezes;
 use domain::Domain;
 use semantics::rule::Rule;
 
+// A rule with more cases is refused.
 const MOST_CASES: u64 = 100_000_000;
 
 // How many codes are settled.
@@ -24,7 +25,7 @@ fn count_settled<D: Domain>(domain: &D) -> u16
     count
 }
 
-// A number times the power of a base, up to the most cases. Once above them, the product may stay short of it.
+// A number times the power of a base. Above the limit the product may stop short, since it stays above.
 fn times_power(number: u64, base: u16, exponent: u8) -> u64
     requires { ⌜ 0 < base ⌝ }
     ensures exact { λ r. ⌜ (r ≤ 100_000_000 → r ≡ number * base ^ exponent) ⌝ }

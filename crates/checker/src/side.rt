@@ -4,7 +4,7 @@ ghost use Prim.Native.Nat.{_≤_};
 ghost use lib.ListN.{length};
 ghost use Rattle.semantics.specs.Programs.{outcome};
 ghost use Rattle.semantics.specs.Rules.{side};
-ghost use Rattle.semantics.specs.Cases.{freezes-in, outcome-test};
+ghost use Rattle.semantics.specs.Cases.{freezes-in, outcome-refining};
 use domain::Domain;
 use domain::Outcome;
 use semantics::Instruction;
@@ -54,7 +54,7 @@ pub fn run_side<D: Domain>(
 
 // Whether the target's outcome refines the source's.
 pub fn outcome_refines<D: Domain>(domain: &D, target: Outcome, source: Outcome) -> bool
-    ensures { λ r. ⌜ r ≡ outcome-test (D·Domain .model (now (domain .entry))) target source ⌝ }
+    ensures { λ r. ⌜ r ≡ outcome-refining (D·Domain .model (now (domain .entry))) target source ⌝ }
 {
     match (target, source) {
         (Outcome::Code(a), Outcome::Code(b)) => domain.refines(a, b),
