@@ -36,3 +36,4 @@ pub mod Passes
 pub mod Behind
 pub mod Room
 pub mod Counts
+pub mod Stepwise

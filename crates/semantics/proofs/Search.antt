@@ -12,7 +12,7 @@ use Rattle.std.specs.declared.option.Option.the-variants.{Some, None}
 use Rattle.domain.specs.Model.{Model, Lawful, outcome-refines}
 use Rattle.semantics.specs.Programs.{All, Inputs, Choices, Refines, outcome}
 use Rattle.semantics.specs.Rules.{Rule, source-of, target-of, Refutes}
-use Rattle.semantics.specs.Cases.{codes, settled-codes, tuples, freezes-in, Case, as-case, entries, cases, source-choices, outcome-test, refutes, first-refuting, Before, Listed, Rising, Comes-before, First-refutes, Checking-exact}
+use Rattle.semantics.specs.Cases.{codes, settled-codes, tuples, freezes-in, Case, as-case, entries, cases, source-choices, outcome-refining, refutes, first-refuting, Before, Listed, Rising, Comes-before, First-refutes, Checking-exact}
 use Rattle.domain.specs.declared.Outcome.{Outcome}
 use Rattle.domain.specs.declared.Outcome.the-variants.{Code, Trap}
 use Rattle.semantics.proofs.Members.{all-weaker}
@@ -21,14 +21,14 @@ use Rattle.semantics.proofs.Numbering.{getD-map, tuple-numbered}
 use Rattle.semantics.proofs.Tuples.{tuple-one-each, one-each-tuple, tuples-rising, before-asym, length-tuples-all, length-tuples-one, one-each-split, one-each-join, one-each-all, all-one-each, take-first, drop-first}
 
 -- the test of two outcomes
-test-refines : (m : Model) (a b : Outcome) → T (outcome-test m a b) → outcome-refines m a b
+test-refines : (m : Model) (a b : Outcome) → T (outcome-refining m a b) → outcome-refines m a b
 test-refines m (Code a) (Code b) t = t
 test-refines m (Code a) Trap t = tt
 test-refines m Trap (Code b) t = absurd t
 test-refines m Trap Trap t = tt
 
 -- and the other way round
-refines-test : (m : Model) (a b : Outcome) → outcome-refines m a b → T (outcome-test m a b)
+refines-test : (m : Model) (a b : Outcome) → outcome-refines m a b → T (outcome-refining m a b)
 refines-test m (Code a) (Code b) t = t
 refines-test m (Code a) Trap t = tt
 refines-test m Trap (Code b) t = absurd t
@@ -127,7 +127,7 @@ module _ (m : Model) where
 
       -- whether the first refines the second
       abbrev test : Case → List ℕ → Bool
-      test c ds = outcome-test m (ours c) (theirs c ds)
+      test c ds = outcome-refining m (ours c) (theirs c ds)
 
       -- the test of a case is exact
       test-refutes : (c : Case) → Inputs m (target-of r) (c .vars) → Choices m (target-of r) (c .choices) → T (refutes m r c) → Refutes m r (c .vars) (c .choices)

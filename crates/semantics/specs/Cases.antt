@@ -66,11 +66,11 @@ cases m r = map (as-case r) (tuples (entries m r))
 abbrev pub source-choices : Model → Rule → List (List ℕ)
 source-choices m r = tuples (replicate (freezes-in (r .source)) (settled-codes m))
 
-abbrev pub outcome-test : Model → Outcome → Outcome → Bool
-outcome-test m (Code a) (Code b) = m .refines a b
-outcome-test m (Code a) Trap = true
-outcome-test m Trap (Code b) = false
-outcome-test m Trap Trap = true
+abbrev pub outcome-refining : Model → Outcome → Outcome → Bool
+outcome-refining m (Code a) (Code b) = m .refines a b
+outcome-refining m (Code a) Trap = true
+outcome-refining m Trap (Code b) = false
+outcome-refining m Trap Trap = true
 
 abbrev pub none : {A : Type 0} → (A → Bool) → List A → Bool
 none t [] = true
@@ -78,7 +78,7 @@ none t (x ∷ xs) = cond (t x) false (none t xs)
 
 -- a case refutes: no source choices let the target's outcome refine the source's
 abbrev pub refutes : Model → Rule → Case → Bool
-refutes m r c = none (λ ds. outcome-test m (outcome m (target-of r) (c .vars) (c .choices)) (outcome m (source-of r) (c .vars) ds)) (source-choices m r)
+refutes m r c = none (λ ds. outcome-refining m (outcome m (target-of r) (c .vars) (c .choices)) (outcome m (source-of r) (c .vars) ds)) (source-choices m r)
 
 abbrev pub first : {A : Type 0} → (A → Bool) → List A → Option A
 first t [] = None

@@ -2,6 +2,7 @@ pub mod Programs
 pub mod Values
 pub mod Operations
 pub mod Rules
+pub mod Held
 pub mod Fitting
 pub mod Cases
 pub mod Changes

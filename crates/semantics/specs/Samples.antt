@@ -17,7 +17,7 @@ use Rattle.semantics.specs.declared.Instruction.{Instruction}
 use Rattle.semantics.specs.Programs.{Program, outcome, all}
 use Rattle.semantics.specs.Rules.{Rule, numbered, target-of}
 use Rattle.semantics.specs.Fitting.{fit, unfit}
-use Rattle.semantics.specs.Cases.{first-refuting, case-number, outcome-test, settled-codes}
+use Rattle.semantics.specs.Cases.{first-refuting, case-number, outcome-refining, settled-codes}
 use Rattle.semantics.specs.Changes.{freed, unchanged, rewrite-at}
 
 -- codes 0 to 3, and poison, which is 4
@@ -95,7 +95,7 @@ pub record Samples : Type 0 where
   pub swap-sound : first-refuting house2 swapped ≡ None
   pub one-freeze : fit difference swapped 2 ≡ unfit 17
   pub swap-gives : outcome house2 (target-of swapped) (4 ∷ []) (0 ∷ 1 ∷ []) ≡ Code 1
-  pub always-zero : all (λ c. outcome-test house2 (outcome house2 difference (4 ∷ []) (c ∷ [])) (Code 0)) (settled-codes house2) ≡ true
+  pub always-zero : all (λ c. outcome-refining house2 (outcome house2 difference (4 ∷ []) (c ∷ [])) (Code 0)) (settled-codes house2) ≡ true
   -- a variable does not take a removed instruction: 17
   pub on-removed : fit (program 1 (plain Sub (Constant 0) (Input 0) ∷ plain Add (Record 1) (Record 1) ∷ []) 2) negated 2 ≡ unfit 17
   -- a source name does not meet two instructions: 16

@@ -9,6 +9,7 @@ use domain::Domain;
 use domain::marks::Marks;
 use domain::operation::Operation;
 
+pub mod rule;
 pub mod step;
 
 // What an instruction reads: an input of the program, the instruction in a record, or a constant's code.

@@ -1,7 +1,7 @@
 // One instruction evaluated.
 ghost use mathlib.Core.Path.{_≡_};
-ghost use lib.ListN.{getD};
-ghost use Rattle.semantics.specs.Programs.{value, step, is-freeze};
+ghost use lib.ListN.{getD, drop};
+ghost use Rattle.semantics.specs.Programs.{value, step, is-freeze, left};
 ghost use Rattle.semantics.specs.Values.{env};
 use crate::Instruction;
 use crate::Operand;
@@ -67,5 +67,16 @@ pub fn is_freeze(instruction: Instruction) -> bool
     match instruction.operation {
         Operation::Freeze => true,
         _ => false,
+    }
+}
+
+// How many choices are used up after an instruction, where `used` were before it.
+pub fn used_after(choices: &[u16], used: usize, instruction: Instruction) -> usize
+    ensures { λ r. ⌜ drop r (now (choices .entry)) ≡ left instruction (drop used (now (choices .entry))) ⌝ }
+{
+    if is_freeze(instruction) && used < choices.len() {
+        used + 1
+    } else {
+        used
     }
 }

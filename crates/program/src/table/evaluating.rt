@@ -1,7 +1,6 @@
 // The program of a table evaluated.
 ghost use mathlib.Core.Path.{_≡_};
-ghost use lib.ListN.{drop};
-ghost use Rattle.semantics.specs.Programs.{left, freezes, outcome, evaluation};
+ghost use Rattle.semantics.specs.Programs.{freezes, outcome, evaluation};
 ghost use Rattle.program.specs.Faults.{answered};
 ghost use Rattle.program.specs.View.{view};
 use crate::codes::all_codes;
@@ -12,21 +11,10 @@ use crate::record::instruction_of;
 use crate::table::Table;
 use domain::Domain;
 use domain::Outcome;
-use semantics::Instruction;
 use semantics::step::at_or_zero;
 use semantics::step::is_freeze;
 use semantics::step::step;
-
-// How many choices are used up after an instruction, where `used` were before it.
-fn used_after(choices: &[u16], used: usize, instruction: Instruction) -> usize
-    ensures { λ r. ⌜ drop r (now (choices .entry)) ≡ left instruction (drop used (now (choices .entry))) ⌝ }
-{
-    if is_freeze(instruction) && used < choices.len() {
-        used + 1
-    } else {
-        used
-    }
-}
+use semantics::step::used_after;
 
 impl Table {
     // The outcome of the program at these inputs and choices, or why there is none.

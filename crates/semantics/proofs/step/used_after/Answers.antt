@@ -1,7 +1,7 @@
 use mathlib.Core.Path.{sym, _∙_}
 use mathlib.Core.Logic.{⊎-elim}
-use Rattle.program.proofs.Running.{takes-one, takes-none, keeps-all}
-use Rattle.program.proofs.table.evaluating.used_after.Needs as need
+use Rattle.semantics.proofs.Stepwise.{takes-one, takes-none, keeps-all}
+use Rattle.semantics.proofs.step.used_after.Needs as need
 
 pub returns-then-used-choices : need.returns-then-used-choices
 returns-then-used-choices c = takes-one (c .args .instruction) (c .args .choices .now) (c .args .used) (sym (c .is-freeze .ensures) ∙ c .if-is-freeze .taken)

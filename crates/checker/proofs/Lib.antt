@@ -1,0 +1,5 @@
+pub mod Above
+pub mod Walks
+pub mod Sides
+pub mod Searches
+pub mod Numbers
