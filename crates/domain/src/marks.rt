@@ -23,7 +23,12 @@ impl Marks {
 
     pub const RANGE: Marks = Marks { bits: 8 };
 
-    pub const ALL: Marks = Marks { bits: 15 };
+    // All four marks.
+    pub fn all() -> Marks
+        ensures { λ r. ⌜ r ≡ record { bits = 15 } ⌝ }
+    {
+        Marks { bits: 15 }
+    }
 
     // The set that a number stands for, by its remainder by 16.
     pub fn from_bits(bits: u8) -> Marks

@@ -262,7 +262,7 @@ mod tests {
     }
 
     fn agrees(words: &Words, circle: Circle, op: Operation, a: u16, b: u16) -> bool {
-        let outcome = words.compute(op, Marks::ALL, a, b);
+        let outcome = words.compute(op, Marks::all(), a, b);
         let broken = words.broken(op, a, b);
         number(outcome) == circle.compute(op, a as u32, b as u32)
             && broken.bits() as u32 == circle.broken(op, a as u32, b as u32)

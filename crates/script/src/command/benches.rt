@@ -71,7 +71,7 @@ fn bench_house(mut words: Cursor) -> Option<Blueprint>
     }
     Some(Blueprint {
         width,
-        bottom: Layer::Poison(Marks::ALL),
+        bottom: Layer::Poison(Marks::all()),
         middle: Layer::None,
         top: Layer::None,
     })
