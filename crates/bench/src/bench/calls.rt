@@ -62,7 +62,9 @@ impl<D: Domain> Bench<D> {
     // The outcome of the present program at these inputs and choices.
     pub fn evaluate(&self, inputs: &[u16], choices: &[u16]) -> Result<Outcome, BenchFault>
         ensures value { λ r. ⌜ evaluate-answer r ≡ answer (D·Domain .model (now (self .entry) .domain)) (state (now (self .entry))) (Call.evaluate (now (inputs .entry)) (now (choices .entry))) ⌝ }
-        ensures promise { λ r. ⌜ made r (λ o. Answers-for-loaded (D·Domain .model (now (self .entry) .domain)) (state (now (self .entry))) (now (inputs .entry)) o) ⌝ }
+        ensures after { λ _. ⌜ state (now (self .entry)) ≡ next (D·Domain .model (now (self .entry) .domain)) (state (now (self .entry))) (Call.evaluate (now (inputs .entry)) (now (choices .entry))) ⌝ }
+        ensures promise { λ _. ⌜ Promised (D·Domain .model (now (self .entry) .domain)) (state (now (self .entry))) (Call.evaluate (now (inputs .entry)) (now (choices .entry))) (state (now (self .entry))) ⌝ }
+        ensures loaded { λ r. ⌜ made r (λ o. Answers-for-loaded (D·Domain .model (now (self .entry) .domain)) (state (now (self .entry))) (now (inputs .entry)) o) ⌝ }
     {
         if !self.loaded {
             return Err(BenchFault::NoProgram);
