@@ -1,4 +1,4 @@
-// Reads the texts of rules and programs in place.
+// Reads the texts of programs in place; of rules it tells the forms of lines alone.
 pub mod facts;
 pub mod fault;
 pub mod form;

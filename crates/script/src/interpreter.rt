@@ -72,6 +72,7 @@ impl Interpreter {
         )
     }
 
+    // A bench inside an option cannot be lent for writing: it is taken out and put back.
     fn load(&mut self, number: u64, text: &[u8]) -> Answer
         ensures value { λ r. ⌜ answer-seen (present (view (now (self .exit)))) r ≡ call-at (view (now (self .entry))) number (Call.load (now (text .entry))) .answer ⌝ }
         ensures after { λ _. ⌜ view (now (self .exit)) ≡ call-at (view (now (self .entry))) number (Call.load (now (text .entry))) .after ⌝ }
@@ -87,6 +88,7 @@ impl Interpreter {
         }
     }
 
+    // The bench stays as it is, which is its state after the call.
     fn evaluate(&self, number: u64, arguments: Arguments) -> Answer
         ensures value { λ r. ⌜ answer-seen (present (view (now (self .entry)))) r ≡ call-at (view (now (self .entry))) number (Call.evaluate (arguments-seen arguments .inputs) (arguments-seen arguments .choices)) .answer ⌝ }
         ensures after { λ _. ⌜ view (now (self .entry)) ≡ call-at (view (now (self .entry))) number (Call.evaluate (arguments-seen arguments .inputs) (arguments-seen arguments .choices)) .after ⌝ }
@@ -122,7 +124,7 @@ impl Interpreter {
         }
     }
 
-    // What the line of a number is answered, where a text follows it; a skipped one has no answer.
+    // What the line of a number is answered, with the text that follows it; a skipped line has no answer.
     pub fn step(&mut self, number: u64, line: Line, text: &[u8]) -> Option<Answer>
         ensures value { λ r. ⌜ mapped (answer-seen (present (view (now (self .exit))))) r ≡ step-of (view (now (self .entry))) number (line-seen line) (now (text .entry)) .answer ⌝ }
         ensures after { λ _. ⌜ view (now (self .exit)) ≡ step-of (view (now (self .entry))) number (line-seen line) (now (text .entry)) .after ⌝ }
