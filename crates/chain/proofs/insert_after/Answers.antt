@@ -15,8 +15,8 @@ returns g c =
     let long = length-map rs s in
     let p = c.args.place in
     let k = c.args.at in
-    let e : map s c.link-to-2.new.records ≡ relink (relink links k (link links p)) p k = cc in
+    let e : map s c.link_to-2.new.records ≡ relink (relink links k (link links p)) p k = cc in
     record {
       links = subst (λ l. Inserts links l p k) (sym e) (inserted links p k c.requires.front (omega (arith, long, c.requires.back)) c.requires.low (omega (arith, long, c.requires.high)) c.requires.other);
-      rest = and_then s g.R.Linked.relinked m.reads m.again m.same rs c.link-to.new.records c.link-to-2.new.records (omega arith) c.link-to.ensures.rest c.link-to-2.ensures.rest;
+      rest = and_then s g.R.Linked.relinked m.reads m.again m.same rs c.link_to.new.records c.link_to-2.new.records (omega arith) c.link_to.ensures.rest c.link_to-2.ensures.rest;
     }

@@ -12,10 +12,10 @@ before-last-requires g c = (c.requires.misses.0, c.requires.misses.1)
 pub returns-then-last-eq0 : goal.returns-then-last-eq0
 returns-then-last-eq0 g c =
     let links = map g.R.Linked.successor c.args.records.now in
-    let after = map g.R.Linked.successor c.push-front.new.records in
+    let after = map g.R.Linked.successor c.push_front.new.records in
     let first = c.args.first in
     let at = c.args.at in
-    let e = c.push-front.ensures in
+    let e = c.push_front.ensures in
     record {
       links = record {
         chain = λ ks h.
@@ -26,8 +26,8 @@ returns-then-last-eq0 g c =
       rest = e.rest;
     }
 
-pub insert-after-requires : goal.insert-after-requires
-insert-after-requires g c =
+pub insert_after-requires : goal.insert_after-requires
+insert_after-requires g c =
     let links = map g.R.Linked.successor c.args.records.now in
     let last = c.before-last.result in
     let m = c.requires.misses in
@@ -44,11 +44,11 @@ insert-after-requires g c =
 pub returns : goal.returns
 returns g c =
     let links = map g.R.Linked.successor c.args.records.now in
-    let after = map g.R.Linked.successor c.insert-after.new.records in
+    let after = map g.R.Linked.successor c.insert_after.new.records in
     let first = c.args.first in
     let at = c.args.at in
     let last = c.before-last.result in
-    let e = c.insert-after.ensures in
+    let e = c.insert_after.ensures in
     let i = λ (ks : List ℕ) (h : Chained links first ks). goes_behind links first c.args.place at last c.before-last.ensures ks h c.if-last-eq0.false in
     record {
       links = record {

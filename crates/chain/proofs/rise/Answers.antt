@@ -13,15 +13,15 @@ loop-at-preserved g c =
     let s = g.R.Linked.successor in
     let m = g.met.R.Linked in
     let before = map s c.args.records.now in
-    let after = map s c.push-front-first.new.records in
+    let after = map s c.push_front-first.new.records in
     let at = c.loop-at.at in
     let low = c.requires.low in
     let up = c.loop-at-test.true in
-    let e = c.push-front-first.ensures in
+    let e = c.push_front-first.ensures in
     let i = c.loop-at.invariant in (
       omega arith,
       omega arith,
-      and_then s g.R.Linked.relinked m.reads m.again m.same c.args.records.now c.loop-at.records c.push-front-first.new.records (omega arith) i.2 e.rest,
+      and_then s g.R.Linked.relinked m.reads m.again m.same c.args.records.now c.loop-at.records c.push_front-first.new.records (omega arith) i.2 e.rest,
       subst (λ f. Risen before after c.args.high f (at - 1)) (sym e.value)
           (rises before (map s c.loop-at.records) after c.args.high c.loop-at.first at (omega arith) i.1 i.3 e.chain e.others),
     )

@@ -12,27 +12,27 @@ use Rattle.script.proofs.run.Goals as goal
 pub loop-rest-smaller : goal.loop-rest-smaller
 loop-rest-smaller c =
     let more : 0 < length c.loop-rest.rest.now = grind (arith, nat_tests) in
-    omega (arith, c.split-line.ensures.shorter more, c.split-text-if-text.ensures.bound)
+    omega (arith, c.split_line.ensures.shorter more, c.split_text_if-text.ensures.bound)
 
 pub loop-rest-preserved : goal.loop-rest-preserved
 loop-rest-preserved c =
     let more : 0 < length c.loop-rest.rest.now = grind (arith, nat_tests) in
-    let after = whole_lines c.split-line.result.1.now in
+    let after = whole_lines c.split_line.result.1.now in
     let order = line_seen c.in-ok-line.line in
     let wanted = c.has_text.ensures in
-    let text = c.split-text-if-text.result in
-    let cut : CutOff c.loop-rest.rest.now c.split-line.result.0.now c.split-line.result.1.now text.bytes.now text.rest.now order text.lines = record {
+    let text = c.split_text_if-text.result in
+    let cut : CutOff c.loop-rest.rest.now c.split_line.result.0.now c.split_line.result.1.now text.bytes.now text.rest.now order text.lines = record {
       more = more;
-      first = c.split-line.ensures.line;
-      behind = c.split-line.ensures.rest;
+      first = c.split_line.ensures.line;
+      behind = c.split_line.ensures.rest;
       says = c.in-ok-line.ensures;
-      text = c.split-text-if-text.ensures.bytes ∙ ap (λ t. cond t (text_of after) []) wanted;
-      lines = c.split-text-if-text.ensures.rest ∙ ap (λ t. cond t (behind_text after) after) wanted;
-      count = c.split-text-if-text.ensures.lines ∙ ap (λ t. cond t (lines_passed after) 0) wanted;
+      text = c.split_text_if-text.ensures.bytes ∙ ap (λ t. cond t (text_of after) []) wanted;
+      lines = c.split_text_if-text.ensures.rest ∙ ap (λ t. cond t (behind_text after) after) wanted;
+      count = c.split_text_if-text.ensures.lines ∙ ap (λ t. cond t (lines_passed after) 0) wanted;
     } in
     let interpreter = c.step-answer.new.self in (
-      omega (arith, c.split-line.ensures.shorter more, c.split-text-if-text.ensures.bound),
-      one_item (view c.loop-rest.interpreter) (view interpreter) c.loop-rest.number c.loop-rest.rest.now c.split-line.result.0.now c.split-line.result.1.now text.bytes.now text.rest.now order text.lines
+      omega (arith, c.split_line.ensures.shorter more, c.split_text_if-text.ensures.bound),
+      one_item (view c.loop-rest.interpreter) (view interpreter) c.loop-rest.number c.loop-rest.rest.now c.split_line.result.0.now c.split_line.result.1.now text.bytes.now text.rest.now order text.lines
           (option_map (answer_seen (present (view interpreter))) c.step-answer.result) (string_bytes c.loop-rest.out) (string_bytes c.print.new.out)
           cut c.step-answer.ensures.value c.step-answer.ensures.after c.in-ok-print.ensures
           ∙ c.loop-rest.invariant.1,

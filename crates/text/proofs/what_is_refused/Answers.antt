@@ -6,4 +6,4 @@ use Rattle.text.proofs.Smallest.{smallest_told}
 pub returns : goal.returns
 returns g c =
     let m = g.D.Domain.model c.args.domain.now in
-    record { rules = rules_told m; programs = programs_told m; rule-lines = rules_first_line m; program-lines = programs_first_line m; smallest = smallest_told m }
+    record { rules = rules_told m; programs = programs_told m; rule_lines = rules_first_line m; program_lines = programs_first_line m; smallest = smallest_told m }

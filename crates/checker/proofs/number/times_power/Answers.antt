@@ -5,8 +5,8 @@ use Rattle.checker.proofs.number.times_power.Goals as goal
 pub loop-init : goal.loop-init
 loop-init c = let e : c.args.exponent - 0 ≡ c.args.exponent = omega arith in ap (λ k. c.args.number * c.args.base ^ k) e
 
-pub returns-then-product-gt-MOST-CASES : goal.returns-then-product-gt-MOST-CASES
-returns-then-product-gt-MOST-CASES c = record {
+pub returns-then-product-gt-MOST_CASES : goal.returns-then-product-gt-MOST_CASES
+returns-then-product-gt-MOST_CASES c = record {
   exact = λ h. absurd (omega arith);
   over = λ h. omega (arith, power_over 100000000 c.loop.product c.args.base (c.args.exponent - c.loop.counter) c.requires h, c.loop.invariant);
 }

@@ -13,7 +13,7 @@ loop-bounds-init g c =
     let b = c.of-bounds.result in
     let told = c.first-case.ensures in
     let same-variables = told.variables ∙ c.variables.ensures in
-    let same-choices = told.choices ∙ c.count-freezes-2.ensures.value ∙ ap freezes_in c.target.ensures in
+    let same-choices = told.choices ∙ c.count_freezes-2.ensures.value ∙ ap freezes_in c.target.ensures in
     let same_digits = told.digits ∙ ap (λ n. first_digits n b.least) c.variables.ensures in (
       same-variables,
       same-choices,

@@ -6,14 +6,14 @@ use Rattle.checker.proofs.side.run_side.Goals as goal
 pub returns-in-Trap : goal.returns-in-Trap
 returns-in-Trap g c =
     run_traps (g.D.Domain.model c.args.domain.now) c.args.variables.now (length c.args.body.now) _ c.args.body.now c.loop-i.values c.args.choices.now c.loop-i.i c.loop-i.used
-    c.at-or-zero-choice.result _ c.loop-i-test.true c.at-or-zero-choice.ensures c.loop-i.invariant.1 c.in-Trap.ensures
+    c.at_or_zero-choice.result _ c.loop-i-test.true c.at_or_zero-choice.ensures c.loop-i.invariant.1 c.in-Trap.ensures
 
 pub loop-i-preserved : goal.loop-i-preserved
 loop-i-preserved g c = (
   length-set c.loop-i.values (c.loop-i.i + 1) c.in-Code.code ∙ c.loop-i.invariant.0,
   run_more (g.D.Domain.model c.args.domain.now) c.args.variables.now (length c.args.body.now) _ c.args.body.now c.loop-i.values c.args.choices.now c.loop-i.i c.loop-i.used
-      c.at-or-zero-choice.result _ c.loop-i-test.true c.at-or-zero-choice.ensures c.loop-i.invariant.1
-      c.in-Code.code c.used-after-used.result (omega (arith, c.requires, c.loop-i.invariant.0)) c.in-Code.ensures c.used-after-used.ensures,
+      c.at_or_zero-choice.result _ c.loop-i-test.true c.at_or_zero-choice.ensures c.loop-i.invariant.1
+      c.in-Code.code c.used_after-used.result (omega (arith, c.requires, c.loop-i.invariant.0)) c.in-Code.ensures c.used_after-used.ensures,
 )
 
 pub returns : goal.returns

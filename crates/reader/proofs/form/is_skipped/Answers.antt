@@ -5,4 +5,4 @@ use Rattle.reader.proofs.Shapes.{word_has_byte}
 use Rattle.reader.proofs.form.is_skipped.Goals as goal
 
 pub bounds-line-0 : goal.bounds-line-0
-bounds-line-0 c = let some = word_has_byte SpacesAndCommas c.args.line.now (c.if-has-ended.ensures ∙ ap no_word c.new.ensures) in omega arith
+bounds-line-0 c = let some = word_has_byte SpacesAndCommas c.args.line.now (c.if-has_ended.ensures ∙ ap no_word c.new.ensures) in omega arith

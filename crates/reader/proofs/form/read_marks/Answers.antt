@@ -7,11 +7,11 @@ use Rattle.reader.proofs.form.read_marks.Goals as goal
 use Rattle.reader.proofs.form.read_marks.Goals.{then-meets, else-meets}
 
 pub loop-mark-init : goal.loop-mark-init
-loop-mark-init c = marked_none c.permitted-marks-permitted.result.bits (left c.args.words.now)
+loop-mark-init c = marked_none c.permitted_marks-permitted.result.bits (left c.args.words.now)
 
 pub loop-mark-preserved : goal.loop-mark-preserved
 loop-mark-preserved c =
-    let permitted = c.permitted-marks-permitted.result.bits in
+    let permitted = c.permitted_marks-permitted.result.bits in
     let set = c.loop-mark.marks.bits in
     let mark = c.in-Some.mark in
     let ws = left c.next_mark.new.words in
@@ -26,5 +26,5 @@ loop-mark-preserved c =
 
 pub returns : goal.returns
 returns c =
-    let e = marked_all c.args.op c.permitted-marks-permitted.result.bits c.loop-mark.marks.bits c.loop-mark.misused (left c.loop-mark.words) (left c.next_mark.new.words) (left c.args.words.now) c.permitted-marks-permitted.ensures.members c.in-default.ensures.value c.next_mark.ensures.after c.loop-mark.invariant in
+    let e = marked_all c.args.op c.permitted_marks-permitted.result.bits c.loop-mark.marks.bits c.loop-mark.misused (left c.loop-mark.words) (left c.next_mark.new.words) (left c.args.words.now) c.permitted_marks-permitted.ensures.members c.in-default.ensures.value c.next_mark.ensures.after c.loop-mark.invariant in
     record { misused = e.0; marks = e.1; after = e.2 }

@@ -8,14 +8,14 @@ use Rattle.reader.proofs.form.read_written.Goals as goal
 
 pub returns-in-err-first : goal.returns-in-err-first
 returns-in-err-first c =
-    let none = written_none c.args.name.now c.args.operation c.operand_count.result (left c.args.words) (left c.read-marks-misused.new.words) c.operand_count.ensures c.read-marks-misused.ensures.after c.in-err-first.ensures in
+    let none = written_none c.args.name.now c.args.operation c.operand_count.result (left c.args.words) (left c.read_marks-misused.new.words) c.operand_count.ensures c.read_marks-misused.ensures.after c.in-err-first.ensures in
     subst (λ r. Formed r (written c.args.name.now c.args.operation (left c.args.words))) (sym c.from-residual.ensures) none
 
 pub returns : goal.returns
 returns c =
     let at = c.in-ok-first in
     let told = λ (n : ℕ). used_places n (seen at.first) (seen at.second) (seen at.third) in
-    let (args, is, same) = written_some c.args.name.now c.args.operation c.operand_count.result (left c.args.words) (left c.read-marks-misused.new.words) c.operand_count.ensures c.read-marks-misused.ensures.after (told c.operand_count.result) at.ensures in
+    let (args, is, same) = written_some c.args.name.now c.args.operation c.operand_count.result (left c.args.words) (left c.read_marks-misused.new.words) c.operand_count.ensures c.read_marks-misused.ensures.after (told c.operand_count.result) at.ensures in
     let line = spelt c.args.name.now c.args.operation (left c.args.words) args in (
       instruction_line line,
       is,
@@ -25,8 +25,8 @@ returns c =
         record {
           name = refl;
           operation = refl;
-          wrong = c.read-marks-misused.ensures.misused;
-          marks = c.read-marks-misused.ensures.marks;
+          wrong = c.read_marks-misused.ensures.misused;
+          marks = c.read_marks-misused.ensures.marks;
           operands = ap told (sym c.operand_count.ensures) ∙ same;
         },
       ),

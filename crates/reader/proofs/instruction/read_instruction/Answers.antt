@@ -5,25 +5,25 @@ use Rattle.reader.specs.Meanings.{some_far, text_fault, instruction_of, found_on
 use Rattle.reader.proofs.Meanings.{fault_free, line_told}
 use Rattle.reader.proofs.instruction.read_instruction.Given.{Over}
 use Rattle.reader.proofs.instruction.read_instruction.Goals as goal
-use Rattle.reader.proofs.instruction.read_instruction.Goals.{In-ok-on-line}
+use Rattle.reader.proofs.instruction.read_instruction.Goals.{In-ok-on_line}
 
-passed : (g : Over) (c : goal.In-ok-on-line g) → (some_far c.args.written.now ≡ false) × (c.args.too-many ≡ false)
+passed : (g : Over) (c : goal.In-ok-on_line g) → (some_far c.args.written.now ≡ false) × (c.args.too_many ≡ false)
 passed g c =
-    fault_free c.args.too-many (known_names c.args.scope.now) c.args.written.now c.args.line _ c.on-line.result
-    (c.on-line.ensures ∙ ap (located c.args.line) c.well-written.ensures)
-    c.in-ok-on-line.was
+    fault_free c.args.too_many (known_names c.args.scope.now) c.args.written.now c.args.line _ c.on_line.result
+    (c.on_line.ensures ∙ ap (located c.args.line) c.well_written.ensures)
+    c.in-ok-on_line.was
 
 pub make-requires : goal.make-requires
 make-requires g c = (passed g c).0
 
-pub returns-in-err-on-line : goal.returns-in-err-on-line
-returns-in-err-on-line g c =
+pub returns-in-err-on_line : goal.returns-in-err-on_line
+returns-in-err-on_line g c =
     let m = g.D.Domain.model c.args.domain.now in
     let ns = known_names c.args.scope.now in
     let w = c.args.written.now in
-    let is : c.from-residual.result ≡ found_on c.args.line (text_fault c.args.too-many ns w) (instruction_of m ns w) = search rules in
+    let is : c.from-residual.result ≡ found_on c.args.line (text_fault c.args.too_many ns w) (instruction_of m ns w) = search rules in
     record {
-      value = λ s spells. ap answered is ∙ line_told m ns w s spells c.args.line c.args.too-many;
+      value = λ s spells. ap answered is ∙ line_told m ns w s spells c.args.line c.args.too_many;
       line = search rules;
       room = search rules;
     }
@@ -33,9 +33,9 @@ returns-in-err-instruction g c =
     let m = g.D.Domain.model c.args.domain.now in
     let ns = known_names c.args.scope.now in
     let w = c.args.written.now in
-    let is : c.from-residual-in-err-instruction.result ≡ found_on c.args.line (text_fault c.args.too-many ns w) (instruction_of m ns w) = search rules in
+    let is : c.from-residual-in-err-instruction.result ≡ found_on c.args.line (text_fault c.args.too_many ns w) (instruction_of m ns w) = search rules in
     record {
-      value = λ s spells. ap answered is ∙ line_told m ns w s spells c.args.line c.args.too-many;
+      value = λ s spells. ap answered is ∙ line_told m ns w s spells c.args.line c.args.too_many;
       line = search rules;
       room = search rules;
     }
@@ -45,9 +45,9 @@ returns g c =
     let m = g.D.Domain.model c.args.domain.now in
     let ns = known_names c.args.scope.now in
     let w = c.args.written.now in
-    let is : Ok c.in-ok-instruction.instruction ≡ found_on c.args.line (text_fault c.args.too-many ns w) (instruction_of m ns w) = search rules in
+    let is : Ok c.in-ok-instruction.instruction ≡ found_on c.args.line (text_fault c.args.too_many ns w) (instruction_of m ns w) = search rules in
     record {
-      value = λ s spells. ap answered is ∙ line_told m ns w s spells c.args.line c.args.too-many;
+      value = λ s spells. ap answered is ∙ line_told m ns w s spells c.args.line c.args.too_many;
       line = search rules;
-      room = (passed g (goal.at.returns g c).In-ok-on-line).1;
+      room = (passed g (goal.at.returns g c).In-ok-on_line).1;
     }

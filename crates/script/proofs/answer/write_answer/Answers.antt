@@ -22,16 +22,16 @@ of_domain WrongWidth = refl
 pub returns-in-NoBench : goal.returns-in-NoBench
 returns-in-NoBench c =
     let st = without_rules (option_map (λ t. view t.now) c.args.program) in
-    appended_is c.write-refusal.result _ _ _ _
+    appended_is c.write_refusal.result _ _ _ _
     (ap (λ n. fault_text (located n domain_layer 0)) c.number.ensures ∙ ap fault_text (of_domain c.in-NoBench.fault) ∙ sym (ap (λ a. told_text (answer_seen st a)) c.in-NoBench.is))
-    c.write-refusal.ensures
+    c.write_refusal.ensures
 
 pub returns-in-Refused : goal.returns-in-Refused
 returns-in-Refused c =
     let st = without_rules (option_map (λ t. view t.now) c.args.program) in
-    appended_is c.write-refusal-in-Refused.result _ _ _ _
+    appended_is c.write_refusal-in-Refused.result _ _ _ _
     ((λ j. fault_text (located (c.number-in-Refused.ensures j) (c.layer.ensures j) (c.line.ensures j))) ∙ sym (ap (λ a. told_text (answer_seen st a)) c.in-Refused.is))
-    c.write-refusal-in-Refused.ensures
+    c.write_refusal-in-Refused.ensures
 
 pub returns-in-ScriptError : goal.returns-in-ScriptError
 returns-in-ScriptError c =

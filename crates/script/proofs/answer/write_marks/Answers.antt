@@ -6,5 +6,5 @@ use Rattle.script.proofs.answer.write_marks.Goals as goal
 pub returns : goal.returns
 returns c =
     let marks = c.args.marks in
-    then_appended c.write-mark.result (string_bytes c.args.out.now) (string_bytes c.write-written-marks.new.out) _ (written_marks_text marks) (mark_text marks (record { bits = 8 }) (codes "range"))
-    c.in-ok-write-written-marks.ensures c.write-mark.ensures
+    then_appended c.write_mark.result (string_bytes c.args.out.now) (string_bytes c.write_written_marks.new.out) _ (written_marks_text marks) (mark_text marks (record { bits = 8 }) (codes "range"))
+    c.in-ok-write_written_marks.ensures c.write_mark.ensures

@@ -10,13 +10,13 @@ returns c =
     let i = c.args.instruction in
     let start = string_bytes c.args.out.now in
     let after1 = string_bytes c.write.new.self in
-    let after2 = string_bytes c.write-written-marks.new.out in
-    let after3 = string_bytes c.write-operands.new.out in
+    let after2 = string_bytes c.write_written_marks.new.out in
+    let after3 = string_bytes c.write_operands.new.out in
     let at = decimal c.args.at in
     let marks = written_marks_text i.marks in
     let reads = operands_text (operands i) in
     let r = c.writeln.result in
     let named : after1 ≡ start ++ (at ++ (codes " " ++ name_of i.operation)) = c.in-ok-write.ensures.bytes ∙ ap (λ l. start ++ (at ++ (codes " " ++ l))) c.name-name.ensures in
     then_appended r start after1 _ (at ++ (codes " " ++ name_of i.operation)) (marks ++ (reads ++ (10 ∷ []))) named
-    (then_appended r after1 after2 _ marks (reads ++ (10 ∷ [])) c.in-ok-write-written-marks.ensures
-    (then_appended r after2 after3 _ reads (10 ∷ []) c.in-ok-write-operands.ensures c.writeln.ensures.bytes))
+    (then_appended r after1 after2 _ marks (reads ++ (10 ∷ [])) c.in-ok-write_written_marks.ensures
+    (then_appended r after2 after3 _ reads (10 ∷ []) c.in-ok-write_operands.ensures c.writeln.ensures.bytes))

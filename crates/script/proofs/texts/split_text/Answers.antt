@@ -3,18 +3,18 @@ use Rattle.std.proofs.lemmas.Bool.Decides.{nat_tests}
 use Rattle.script.proofs.Passing.{unclosed, closed, goes_on}
 use Rattle.script.proofs.texts.split_text.Goals as goal
 
-pub returns-then-is-word : goal.returns-then-is-word
-returns-then-is-word c =
+pub returns-then-is_word : goal.returns-then-is_word
+returns-then-is_word c =
     let rest = c.loop-line.rest.now in
     let more : 0 < length rest = grind (arith, nat_tests) in
-    let over = closed c.args.script.now rest c.loop-line.lines c.loop-line.invariant c.split-line.result.0.now c.split-line.result.1.now c.split-line.ensures.line c.split-line.ensures.rest more (sym c.is-word.ensures ∙ c.if-is-word.true) in
-    record { bytes = c.split-at.ensures.front ∙ over.bytes; rest = over.rest; lines = over.lines; bound = over.bound }
+    let over = closed c.args.script.now rest c.loop-line.lines c.loop-line.invariant c.split_line.result.0.now c.split_line.result.1.now c.split_line.ensures.line c.split_line.ensures.rest more (sym c.is_word.ensures ∙ c.if-is_word.true) in
+    record { bytes = c.split_at.ensures.front ∙ over.bytes; rest = over.rest; lines = over.lines; bound = over.bound }
 
 pub loop-line-preserved : goal.loop-line-preserved
 loop-line-preserved c =
     let rest = c.loop-line.rest.now in
     let more : 0 < length rest = grind (arith, nat_tests) in
-    goes_on c.args.script.now rest c.loop-line.lines c.loop-line.invariant c.split-line.result.0.now c.split-line.result.1.now c.split-line.ensures.line c.split-line.ensures.rest more (sym c.is-word.ensures ∙ c.if-is-word.false)
+    goes_on c.args.script.now rest c.loop-line.lines c.loop-line.invariant c.split_line.result.0.now c.split_line.result.1.now c.split_line.ensures.line c.split_line.ensures.rest more (sym c.is_word.ensures ∙ c.if-is_word.false)
 
 pub returns : goal.returns
 returns c =

@@ -24,5 +24,5 @@ invariant-of-result c =
 
 pub returns : goal.returns
 returns c =
-    let whole : c.loop-place.place ≡ c.args.variable-count = omega arith in
+    let whole : c.loop-place.place ≡ c.args.variable_count = omega arith in
     record { digits = c.loop-place.invariant.1 ∙ ap (λ i. first_digits i c.args.bounds.least) whole; variables = refl; choices = refl }

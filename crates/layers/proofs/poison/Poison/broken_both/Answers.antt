@@ -8,4 +8,4 @@ loop-x-init g c = sym (union_none _)
 
 pub loop-x-preserved : goal.loop-x-preserved
 loop-x-preserved g c =
-    ap (λ s. s.bits) c.union-marks.ensures ∙ ap₂ bit_or c.loop-x.invariant c.broken-second-in-loop-x.ensures ∙ sym (union_more c.loop-x.x _)
+    ap (λ s. s.bits) c.union-marks.ensures ∙ ap₂ bit_or c.loop-x.invariant c.broken_second-in-loop-x.ensures ∙ sym (union_more c.loop-x.x _)

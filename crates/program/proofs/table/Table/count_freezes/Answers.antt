@@ -7,13 +7,13 @@ use Rattle.program.specs.View.{links, instructions}
 use Rattle.program.proofs.Tables.{chains_of, inside}
 use Rattle.program.proofs.Freezes.{Counting, starts, counts, skips, ends_with}
 use Rattle.program.proofs.table.Table.count_freezes.Goals as goal
-use Rattle.program.proofs.table.Table.count_freezes.Goals.{then-is-freeze, else-is-freeze}
+use Rattle.program.proofs.table.Table.count_freezes.Goals.{then-is_freeze, else-is_freeze}
 
 pub loop-at-init : goal.loop-at-init
 loop-at-init c = let t = c.args.self.now in starts (links t.records) (instructions t.records) t.first (chains_of t).used
 
-pub instruction-of-requires : goal.instruction-of-requires
-instruction-of-requires c =
+pub instruction_of-requires : goal.instruction_of-requires
+instruction_of-requires c =
     let s = c.loop-at.invariant in
     let w = inside c.args.self.now.records c.loop-at.at s.rest s.chain c.loop-at-test.true in
     record { low = w.0; high = w.1 }
@@ -21,12 +21,12 @@ instruction-of-requires c =
 pub overflow-add-count : goal.overflow-add-count
 overflow-add-count c =
     let t = c.args.self.now in
-    let freezes-here = ap is_freeze (sym c.instruction_of.ensures) ∙ sym c.is_freeze.ensures ∙ c.if-is-freeze.true in
+    let freezes-here = ap is_freeze (sym c.instruction_of.ensures) ∙ sym c.is_freeze.ensures ∙ c.if-is_freeze.true in
     let more = counts (links t.records) (instructions t.records) t.first c.loop-at.at c.loop-at.count c.loop-at.invariant c.loop-at-test.true freezes-here in
     omega (arith, more.0, length-map t.records (λ (r : Record). r.next), t.long)
 
-pub next-of-at-requires : goal.next-of-at-requires
-next-of-at-requires c =
+pub next_of-at-requires : goal.next_of-at-requires
+next_of-at-requires c =
     let s = c.loop-at.invariant in
     let w = inside c.args.self.now.records c.loop-at.at s.rest s.chain c.loop-at-test.true in
     record { low = w.0; high = w.1 }
@@ -34,16 +34,16 @@ next-of-at-requires c =
 pub loop-at-smaller : goal.loop-at-smaller
 loop-at-smaller c =
     let s = c.loop-at.invariant in
-    shorter (links c.args.self.now.records) c.loop-at.at c.next-of-at.result s.rest s.chain c.loop-at-test.true c.next-of-at.ensures
+    shorter (links c.args.self.now.records) c.loop-at.at c.next_of-at.result s.rest s.chain c.loop-at-test.true c.next_of-at.ensures
 
 pub loop-at-preserved : goal.loop-at-preserved
 loop-at-preserved c =
     let t = c.args.self.now in
     let here = λ (b : Bool) (h : c.is_freeze.result ≡ b). ap is_freeze (sym c.instruction_of.ensures) ∙ sym c.is_freeze.ensures ∙ h in
-    let on = Counting (links t.records) (instructions t.records) t.first c.next-of-at.result in
-    elim c.if-is-freeze.branch [
-      | then-is-freeze w ↦ subst on (sym w.count-is) ((counts (links t.records) (instructions t.records) t.first c.loop-at.at c.loop-at.count c.loop-at.invariant c.loop-at-test.true (here true w.if-is-freeze.true)).1 c.next-of-at.result c.next-of-at.ensures)
-      | else-is-freeze w ↦ subst on (sym w.count-is) (skips (links t.records) (instructions t.records) t.first c.loop-at.at c.loop-at.count c.loop-at.invariant c.loop-at-test.true (here false w.if-is-freeze.false) c.next-of-at.result c.next-of-at.ensures)
+    let on = Counting (links t.records) (instructions t.records) t.first c.next_of-at.result in
+    elim c.if-is_freeze.branch [
+      | then-is_freeze w ↦ subst on (sym w.count-is) ((counts (links t.records) (instructions t.records) t.first c.loop-at.at c.loop-at.count c.loop-at.invariant c.loop-at-test.true (here true w.if-is_freeze.true)).1 c.next_of-at.result c.next_of-at.ensures)
+      | else-is_freeze w ↦ subst on (sym w.count-is) (skips (links t.records) (instructions t.records) t.first c.loop-at.at c.loop-at.count c.loop-at.invariant c.loop-at-test.true (here false w.if-is_freeze.false) c.next_of-at.result c.next_of-at.ensures)
     ]
 
 pub returns : goal.returns

@@ -30,11 +30,11 @@ module _ (t : Table) (h : 1 ≤ length (view t).free) where
   within : (1 ≤ t.free) × (t.free ≤ length t.records)
   within = inside t.records t.free (walk (links t.records) t.free) (chains_of t).spare there
 
-pub take-front-self-requires : goal.take-front-self-requires
-take-front-self-requires c = let w = within c.args.self.now c.requires in record { low = w.0; high = w.1 }
+pub take_front-self-requires : goal.take_front-self-requires
+take_front-self-requires c = let w = within c.args.self.now c.requires in record { low = w.0; high = w.1 }
 
-pub insert-before-self-requires : goal.insert-before-self-requires
-insert-before-self-requires c =
+pub insert_before-self-requires : goal.insert_before-self-requires
+insert_before-self-requires c =
     let t = c.args.self.now in
     let w = within t c.requires in
     record { misses = (walk (links t.records) t.first, (chains_of t).used, (off t c.requires).away); low = w.0; high = w.1 }
@@ -43,24 +43,24 @@ pub put-requires : goal.put-requires
 put-requires c = let w = within c.args.self.now c.requires in record { low = w.0; high = omega (arith, w.1) }
 
 chained : (c : After-put) → let t = c.args.self.now in
-    Disjoint (links c.put.new.records) c.insert-before-self.result c.take-front-self.result (put_before c.args.place t.free (walk (links t.records) t.first)) (off t c.requires).rest
+    Disjoint (links c.put.new.records) c.insert_before-self.result c.take_front-self.result (put_before c.args.place t.free (walk (links t.records) t.first)) (off t c.requires).rest
 chained c =
     let t = c.args.self.now in
     let o = off t c.requires in
     let ks = walk (links t.records) t.first in
     let l0 = links t.records in
-    let l1 = links c.insert-before-self.new.records in
-    let first = c.insert-before-self.result in
-    let kept = enters l0 l1 t.first (link l0 t.free) first c.args.place t.free ks o.rest o.chains o.apart c.insert-before-self.ensures.links in
+    let l1 = links c.insert_before-self.new.records in
+    let first = c.insert_before-self.result in
+    let kept = enters l0 l1 t.first (link l0 t.free) first c.args.place t.free ks o.rest o.chains o.apart c.insert_before-self.ensures.links in
     let now = λ (l : List ℕ) (f : ℕ). Disjoint l first f (put_before c.args.place t.free ks) o.rest in
-    subst (λ l. now l c.take-front-self.result) (sym c.put.ensures.rest) (subst (now l1) (sym c.take-front-self.ensures.value) kept)
+    subst (λ l. now l c.take_front-self.result) (sym c.put.ensures.rest) (subst (now l1) (sym c.take_front-self.ensures.value) kept)
 
 pub invariant-of-self : goal.invariant-of-self
 invariant-of-self c =
     let t = c.args.self.now in
     let o = off t c.requires in
     let ks = walk (links t.records) t.first in
-    let k = sound c.put.new.records c.insert-before-self.result c.take-front-self.result (put_before c.args.place t.free ks) o.rest (omega (arith, t.long)) (chained c)
+    let k = sound c.put.new.records c.insert_before-self.result c.take_front-self.result (put_before c.args.place t.free ks) o.rest (omega (arith, t.long)) (chained c)
     (omega (arith, count_before c.args.place t.free ks, t.all, ap length o.is)) in
     (k.long, (k.chains, (k.all, tt)))
 
@@ -74,16 +74,16 @@ returns c =
     let i = c.args.instruction in
     let ks = walk (links t.records) t.first in
     let is = instructions t.records in
-    let rs1 = c.insert-before-self.new.records in
+    let rs1 = c.insert_before-self.new.records in
     let rs2 = c.put.new.records in
     let high : at ≤ length is = omega (arith, w.1, length-map t.records (λ (r : Record). r.instruction)) in
     let new : Placed = record { at = at; what = i } in
-    let what : instructions rs2 ≡ set is (at - 1) i = c.put.ensures.what ∙ ap (λ l. set l (at - 1) i) (ap instructions c.insert-before-self.ensures.rest ∙ same_instructions t.records (links rs1)) in
+    let what : instructions rs2 ≡ set is (at - 1) i = c.put.ensures.what ∙ ap (λ l. set l (at - 1) i) (ap instructions c.insert_before-self.ensures.rest ∙ same_instructions t.records (links rs1)) in
     let body : map (placed (instructions rs2)) (put_before place at ks) ≡ put_in place new (map (placed is) ks) =
     ap (λ l. map (placed l) (put_before place at ks)) what ∙ along_before (set is (at - 1) i) place at ks ∙
     ap (λ x. put_in place x (map (placed (set is (at - 1) i)) ks)) (here is at i w.0 high) ∙
     ap (put_in place new) (along_others is at i w.0 high (links t.records) t.first ks (chains_of t).used o.away) in
     record {
       value = sym (ap head o.is);
-      after = shows rs2 c.insert-before-self.result c.take-front-self.result t.inputs t.result (put_before place at ks) o.rest _ (chained (goal.at.returns c).After-put) body ∙ sym (ap (entered_in place i (view t)) o.is);
+      after = shows rs2 c.insert_before-self.result c.take_front-self.result t.inputs t.result (put_before place at ks) o.rest _ (chained (goal.at.returns c).After-put) body ∙ sym (ap (entered_in place i (view t)) o.is);
     }

@@ -8,8 +8,8 @@ use Rattle.program.proofs.table.Table.look.Goals as goal
 pub loop-at-init : goal.loop-at-init
 loop-at-init c = let t = c.args.self.now in starts (links t.records) (instructions t.records) t.first c.args.wanted (chains_of t).used
 
-pub instruction-of-requires : goal.instruction-of-requires
-instruction-of-requires c =
+pub instruction_of-requires : goal.instruction_of-requires
+instruction_of-requires c =
     let s = c.loop-at.invariant in
     let w = inside c.args.self.now.records c.loop-at.at s.rest s.chain c.loop-at-test.true in
     record { low = w.0; high = w.1 }
@@ -19,8 +19,8 @@ returns-then-at-wanted c =
     let t = c.args.self.now in
     ap Some c.instruction_of.ensures ∙ found (links t.records) (instructions t.records) t.first c.args.wanted c.loop-at.at c.loop-at.invariant c.loop-at-test.true c.if-at-wanted.true
 
-pub next-of-at-requires : goal.next-of-at-requires
-next-of-at-requires c =
+pub next_of-at-requires : goal.next_of-at-requires
+next_of-at-requires c =
     let s = c.loop-at.invariant in
     let w = inside c.args.self.now.records c.loop-at.at s.rest s.chain c.loop-at-test.true in
     record { low = w.0; high = w.1 }
@@ -28,12 +28,12 @@ next-of-at-requires c =
 pub loop-at-smaller : goal.loop-at-smaller
 loop-at-smaller c =
     let s = c.loop-at.invariant in
-    shorter (links c.args.self.now.records) c.loop-at.at c.next-of-at.result s.rest s.chain c.loop-at-test.true c.next-of-at.ensures
+    shorter (links c.args.self.now.records) c.loop-at.at c.next_of-at.result s.rest s.chain c.loop-at-test.true c.next_of-at.ensures
 
 pub loop-at-preserved : goal.loop-at-preserved
 loop-at-preserved c =
     let t = c.args.self.now in
-    goes_on (links t.records) (instructions t.records) t.first c.args.wanted c.loop-at.at c.loop-at.invariant c.loop-at-test.true c.next-of-at.result c.if-at-wanted.false c.next-of-at.ensures
+    goes_on (links t.records) (instructions t.records) t.first c.args.wanted c.loop-at.at c.loop-at.invariant c.loop-at-test.true c.next_of-at.result c.if-at-wanted.false c.next_of-at.ensures
 
 pub returns : goal.returns
 returns c =

@@ -12,8 +12,8 @@ loop-at-init g c =
     let t = c.args.self.now in
     (refl, starts (g.D.Domain.model c.args.domain.now) c.args.inputs.now c.args.choices.now t.result (links t.records) (instructions t.records) t.first (chains_of t).used)
 
-pub instruction-of-instruction-requires : goal.instruction-of-instruction-requires
-instruction-of-instruction-requires g c =
+pub instruction_of-instruction-requires : goal.instruction_of-instruction-requires
+instruction_of-instruction-requires g c =
     let r = c.loop-at.invariant.1 in
     let w = inside c.args.self.now.records c.loop-at.at r.rest r.chain c.loop-at-test.true in
     record { low = w.0; high = w.1 }
@@ -28,10 +28,10 @@ pub returns-in-Trap : goal.returns-in-Trap
 returns-in-Trap g c =
     let t = c.args.self.now in
     traps (g.D.Domain.model c.args.domain.now) c.args.inputs.now c.args.choices.now t.result (links t.records) (instructions t.records) t.first c.loop-at.at c.loop-at.values c.loop-at.used
-    c.instruction-of-instruction.result c.at-or-zero-choice.result c.loop-at.invariant.1 c.loop-at-test.true c.instruction-of-instruction.ensures c.at-or-zero-choice.ensures c.in-Trap.ensures
+    c.instruction_of-instruction.result c.at_or_zero-choice.result c.loop-at.invariant.1 c.loop-at-test.true c.instruction_of-instruction.ensures c.at_or_zero-choice.ensures c.in-Trap.ensures
 
-pub next-of-at-requires : goal.next-of-at-requires
-next-of-at-requires g c =
+pub next_of-at-requires : goal.next_of-at-requires
+next_of-at-requires g c =
     let r = c.loop-at.invariant.1 in
     let w = inside c.args.self.now.records c.loop-at.at r.rest r.chain c.loop-at-test.true in
     record { low = w.0; high = w.1 }
@@ -39,7 +39,7 @@ next-of-at-requires g c =
 pub loop-at-smaller : goal.loop-at-smaller
 loop-at-smaller g c =
     let r = c.loop-at.invariant.1 in
-    shorter (links c.args.self.now.records) c.loop-at.at c.next-of-at.result r.rest r.chain c.loop-at-test.true c.next-of-at.ensures
+    shorter (links c.args.self.now.records) c.loop-at.at c.next_of-at.result r.rest r.chain c.loop-at-test.true c.next_of-at.ensures
 
 pub loop-at-preserved : goal.loop-at-preserved
 loop-at-preserved g c =
@@ -49,14 +49,14 @@ loop-at-preserved g c =
     let long = c.loop-at.invariant.0 in (
       length-set c.loop-at.values at c.in-Code.code ∙ long,
       goes_on (g.D.Domain.model c.args.domain.now) c.args.inputs.now c.args.choices.now t.result (links t.records) (instructions t.records) t.first at c.loop-at.values c.loop-at.used
-          c.instruction-of-instruction.result c.at-or-zero-choice.result r c.loop-at-test.true c.instruction-of-instruction.ensures c.at-or-zero-choice.ensures
-          c.in-Code.code c.used-after-used.result c.next-of-at.result (omega (arith, (inside t.records at r.rest r.chain c.loop-at-test.true).1, t.long, long)) c.in-Code.ensures c.used-after-used.ensures c.next-of-at.ensures,
+          c.instruction_of-instruction.result c.at_or_zero-choice.result r c.loop-at-test.true c.instruction_of-instruction.ensures c.at_or_zero-choice.ensures
+          c.in-Code.code c.used_after-used.result c.next_of-at.result (omega (arith, (inside t.records at r.rest r.chain c.loop-at-test.true).1, t.long, long)) c.in-Code.ensures c.used_after-used.ensures c.next_of-at.ensures,
     )
 
 pub returns : goal.returns
 returns g c =
     let t = c.args.self.now in
     let r = c.loop-at.invariant.1 in
-    ap Code c.at-or-zero.ensures ∙
+    ap Code c.at_or_zero.ensures ∙
     sym (ends_with (g.D.Domain.model c.args.domain.now) c.args.inputs.now c.args.choices.now t.result (instructions t.records) (links t.records) c.loop-at.at r.rest c.loop-at.values c.loop-at.used r.chain c.loop-at-test.false) ∙
     r.same

@@ -6,4 +6,4 @@ use Rattle.reader.proofs.names.Names.has.Goals as goal
 pub returns : goal.returns
 returns c =
     let t = c.args.self.now in
-    c.is-some.ensures ∙ ap is_some c.place.ensures.value ∙ among_is c.args.name.now (listed t.count t.names)
+    c.is_some.ensures ∙ ap is_some c.place.ensures.value ∙ among_is c.args.name.now (listed t.count t.names)

@@ -16,10 +16,10 @@ loop-i-preserved c =
     let few : t.count ≤ length t.names = omega (arith, t.long, t.few) in
     place_onward c.args.name.now (listed t.count t.names) c.loop-i.i c.loop-i.invariant
     (omega (arith, length_listed t.names t.count few))
-    (ap (same_word c.args.name.now) (getD_listed t.names t.count few c.loop-i.i _ c.loop-i-test.true) ∙ sym c.is-word.ensures ∙ c.if-is-word.false)
+    (ap (same_word c.args.name.now) (getD_listed t.names t.count few c.loop-i.i _ c.loop-i-test.true) ∙ sym c.is_word.ensures ∙ c.if-is_word.false)
 
-pub returns-then-is-word : goal.returns-then-is-word
-returns-then-is-word c =
+pub returns-then-is_word : goal.returns-then-is_word
+returns-then-is_word c =
     let t = c.args.self.now in
     let few : t.count ≤ length t.names = omega (arith, t.long, t.few) in
     record {
@@ -27,7 +27,7 @@ returns-then-is-word c =
           sym
           (place_here c.args.name.now (listed t.count t.names) c.loop-i.i c.loop-i.invariant
           (omega (arith, length_listed t.names t.count few))
-          (ap (same_word c.args.name.now) (getD_listed t.names t.count few c.loop-i.i _ c.loop-i-test.true) ∙ sym c.is-word.ensures ∙ c.if-is-word.true));
+          (ap (same_word c.args.name.now) (getD_listed t.names t.count few c.loop-i.i _ c.loop-i-test.true) ∙ sym c.is_word.ensures ∙ c.if-is_word.true));
       bound = c.loop-i-test.true;
     }
 

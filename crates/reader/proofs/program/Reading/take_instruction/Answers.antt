@@ -20,7 +20,7 @@ returns-in-err-instruction g c =
       value = λ s spells.
           ap (left_at _) is
           ∙ line_entered m (table r.scope.variables) ns r.body few r.result s c.args.written.name.now spells.name (Err f)
-          (ap answered (sym c.in-err-instruction.was) ∙ c.read-instruction.ensures.value s spells ∙ ap (λ (k : ℕ). unless (instruction_fault m (leb 64 k) (known_names r.scope) s) (instruction m (known_names r.scope) s)) c.len-place.ensures.value);
+          (ap answered (sym c.in-err-instruction.was) ∙ c.read_instruction.ensures.value s spells ∙ ap (λ (k : ℕ). unless (instruction_fault m (leb 64 k) (known_names r.scope) s) (instruction m (known_names r.scope) s)) c.len-place.ensures.value);
       line = search rules;
     }
 
@@ -38,6 +38,6 @@ returns g c =
       value = λ s spells.
           (λ j. next (record { section = section_of (c.requires j); inputs = table r.scope.variables; body = body j; result = r.result }))
           ∙ line_entered m (table r.scope.variables) ns r.body (omega arith) r.result s n spells.name (Ok i)
-          (ap answered (sym c.in-ok-instruction.was) ∙ c.read-instruction.ensures.value s spells ∙ ap (λ (k : ℕ). unless (instruction_fault m (leb 64 k) (known_names r.scope) s) (instruction m (known_names r.scope) s)) c.len-place.ensures.value);
+          (ap answered (sym c.in-ok-instruction.was) ∙ c.read_instruction.ensures.value s spells ∙ ap (λ (k : ℕ). unless (instruction_fault m (leb 64 k) (known_names r.scope) s) (instruction m (known_names r.scope) s)) c.len-place.ensures.value);
       line = tt;
     }

@@ -4,16 +4,16 @@ use Rattle.vocabulary.specs.Names.{same_word, operations, operation_named}
 use Rattle.vocabulary.proofs.Named.{named_here, named_later, named_nowhere, names_operation}
 use Rattle.vocabulary.proofs.operation.Operation.named.Goals as goal
 
-pub returns-then-is-word : goal.returns-then-is-word
-returns-then-is-word c =
-    let is = ap (same_word c.args.word.now) (c.as-bytes.ensures.value ∙ c.name.ensures) in
-    let e = sym (named_here operations c.loop-i.i _ c.args.word.now c.loop-i-test.true (sym is ∙ sym c.if-is-word.ensures)) ∙ c.loop-i.invariant in
+pub returns-then-is_word : goal.returns-then-is_word
+returns-then-is_word c =
+    let is = ap (same_word c.args.word.now) (c.as_bytes.ensures.value ∙ c.name.ensures) in
+    let e = sym (named_here operations c.loop-i.i _ c.args.word.now c.loop-i-test.true (sym is ∙ sym c.if-is_word.ensures)) ∙ c.loop-i.invariant in
     record { value = e; meaning = names_operation c.args.word.now _ e }
 
 pub loop-i-preserved : goal.loop-i-preserved
 loop-i-preserved c =
-    let is = ap (same_word c.args.word.now) (c.as-bytes.ensures.value ∙ c.name.ensures) in
-    sym (named_later operations c.loop-i.i _ c.args.word.now c.loop-i-test.true (sym is ∙ sym c.if-is-word.ensures)) ∙ c.loop-i.invariant
+    let is = ap (same_word c.args.word.now) (c.as_bytes.ensures.value ∙ c.name.ensures) in
+    sym (named_later operations c.loop-i.i _ c.args.word.now c.loop-i-test.true (sym is ∙ sym c.if-is_word.ensures)) ∙ c.loop-i.invariant
 
 pub returns : goal.returns
 returns c =

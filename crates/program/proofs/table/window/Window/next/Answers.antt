@@ -14,14 +14,14 @@ returns-then-at-eq0 c =
     let e = ended (links rs) w.at (walk (links rs) w.at) (chain_of w) c.if-at-eq0.true in
     record { value = sym (ap (λ ks. first_of (along rs ks)) e); after = ap (along rs) e ∙ sym (ap (λ ks. others_of (along rs ks)) e) }
 
-pub instruction-of-instruction-requires : goal.instruction-of-instruction-requires
-instruction-of-instruction-requires c =
+pub instruction_of-instruction-requires : goal.instruction_of-instruction-requires
+instruction_of-instruction-requires c =
     let w = c.args.self.now in
     let i = inside w.records.now w.at _ (chain_of w) c.if-at-eq0.false in
     record { low = i.0; high = i.1 }
 
-pub next-of-self-requires : goal.next-of-self-requires
-next-of-self-requires c =
+pub next_of-self-requires : goal.next_of-self-requires
+next_of-self-requires c =
     let w = c.args.self.now in
     let i = inside w.records.now w.at _ (chain_of w) c.if-at-eq0.false in
     record { low = i.0; high = i.1 }
@@ -29,14 +29,14 @@ next-of-self-requires c =
 pub invariant-of-self : goal.invariant-of-self
 invariant-of-self c =
     let w = c.args.self.now in
-    ((steps (links w.records.now) w.at c.next-of-self.result (chain_of w) c.if-at-eq0.false c.next-of-self.ensures).chain, tt)
+    ((steps (links w.records.now) w.at c.next_of-self.result (chain_of w) c.if-at-eq0.false c.next_of-self.ensures).chain, tt)
 
 pub returns : goal.returns
 returns c =
     let w = c.args.self.now in
     let rs = w.records.now in
-    let s = steps (links rs) w.at c.next-of-self.result (chain_of w) c.if-at-eq0.false c.next-of-self.ensures in
+    let s = steps (links rs) w.at c.next_of-self.result (chain_of w) c.if-at-eq0.false c.next_of-self.ensures in
     record {
-      value = ap (λ (i : Instruction). Some (in_its_record (w.at, i))) c.instruction-of-instruction.ensures ∙ sym (ap (λ ks. first_of (along rs ks)) s.is);
+      value = ap (λ (i : Instruction). Some (in_its_record (w.at, i))) c.instruction_of-instruction.ensures ∙ sym (ap (λ ks. first_of (along rs ks)) s.is);
       after = sym (ap (λ ks. others_of (along rs ks)) s.is);
     }
