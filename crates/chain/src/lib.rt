@@ -3,6 +3,8 @@
 // A chain is known by its first record, which the caller keeps. What a caller owes is that the links from there form a chain: `Ends`,
 // `Passes` and `Misses` in specs/Chains.antt. What it gets is the chain's new list, that every chain without a changed record stays, and
 // that nothing but links changed.
+#![tactic(auto)]
+
 ghost use Rattle.std.specs.Prelude.{◌≡◌, ℕ, ◌+◌, ◌-◌, ◌≤◌, List, [], ◌∷◌, ◌++◌, map, length, ◌≢◌};
 ghost use Rattle.chain.specs.Chains.{Chained, Apart, OthersStay, Becomes, OnlyLinks, Ends, Passes, Misses, link, relink};
 ghost use Rattle.chain.specs.Places.{put_before, without, predecessor, rising, Inserts};

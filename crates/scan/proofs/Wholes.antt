@@ -1,5 +1,5 @@
 -- The first line of a text with the byte that ends it.
-use Rattle.std.proofs.Common.{◌≡◌, ℕ, suc, ◌+◌, ◌<◌, Bool, true, false, cond, List, [], ◌∷◌, ◌++◌, length, take, drop, sym, refl, ap, ◌∙◌, add-one, arith}
+use Rattle.std.proofs.Common.{◌≡◌, ℕ, suc, ◌<◌, Bool, true, false, cond, [], ◌∷◌, ◌++◌, length, take, drop, sym, refl, ap, ◌∙◌, add-one, arith}
 use Rattle.std.proofs.lemmas.List.{take-append-drop}
 use Rattle.scan.specs.declared.Separators.TheVariants.{LineFeeds}
 use Rattle.scan.specs.Pieces.{Bytes, separates, byte_before_whole, whole_lines, until, first_line, after_line}

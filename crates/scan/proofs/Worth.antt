@@ -1,5 +1,5 @@
 -- What digits are worth, where counting stops above a limit.
-use Rattle.std.proofs.Common.{◌≡◌, ℕ, ◌+◌, ◌-◌, ◌*◌, ◌<◌, ◌≤◌, min, ◌⊎◌, List, [], ◌∷◌, ap, ⊎_elim, arith}
+use Rattle.std.proofs.Common.{◌≡◌, ℕ, ◌+◌, ◌-◌, ◌*◌, ◌≤◌, min, ◌⊎◌, List, [], ◌∷◌, ap, ⊎_elim, arith}
 use Rattle.scan.specs.Numbers.{worth}
 
 -- a number only grows with more digits

@@ -1,4 +1,6 @@
 // Lines, words and decimal numbers of a text of bytes, read in place.
+#![tactic(auto)]
+
 ghost use Rattle.std.specs.Prelude.{◌≡◌, ◌+◌, ◌<◌, ◌≤◌, ◌∷◌, length, IfSome};
 ghost use Rattle.std.specs.Option.{option_map};
 ghost use Rattle.scan.specs.Pieces.{separates, until, gap, first_line, after_line, lines, words, left, first, others};

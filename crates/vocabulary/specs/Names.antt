@@ -36,6 +36,31 @@ name_of Select = codes "select"
 abbrev pub operations : List Operation
 operations = Add ∷ Sub ∷ Mul ∷ Shl ∷ Lshr ∷ Ashr ∷ Udiv ∷ Urem ∷ Sdiv ∷ Srem ∷ And ∷ Or ∷ Xor ∷ Eq ∷ Ne ∷ Ult ∷ Ule ∷ Slt ∷ Sle ∷ Copy ∷ Freeze ∷ Select ∷ []
 
+-- the place of an operation in their order
+abbrev pub number_of : Operation → ℕ
+number_of Add = 0
+number_of Sub = 1
+number_of Mul = 2
+number_of Shl = 3
+number_of Lshr = 4
+number_of Ashr = 5
+number_of Udiv = 6
+number_of Urem = 7
+number_of Sdiv = 8
+number_of Srem = 9
+number_of And = 10
+number_of Or = 11
+number_of Xor = 12
+number_of Eq = 13
+number_of Ne = 14
+number_of Ult = 15
+number_of Ule = 16
+number_of Slt = 17
+number_of Sle = 18
+number_of Copy = 19
+number_of Freeze = 20
+number_of Select = 21
+
 -- how many operands an operation takes: a domain computes those that take two
 abbrev pub operand_count : Operation → ℕ
 operand_count Add = 2

@@ -1,4 +1,6 @@
 // The words of rules and programs: operations, marks and their names.
+#![tactic(auto)]
+
 pub mod marks;
 pub mod name;
 pub mod operation;

@@ -1,6 +1,7 @@
 // The 22 operations and their names.
-ghost use Rattle.std.specs.Prelude.{◌≡◌, Decides};
-ghost use Rattle.vocabulary.specs.Names.{name_of, operand_count, operation_named, NamesOperation};
+ghost use Rattle.std.specs.Prelude.{◌≡◌, ◌==◌, ◌↔◌, IsTrue};
+ghost use Rattle.std.specs.Ordering.{on};
+ghost use Rattle.vocabulary.specs.Names.{name_of, number_of, operand_count, operation_named, NamesOperation};
 ghost use Rattle.std.specs.Cmp.Rules.{comparing};
 ghost use Rattle.std.proofs.Common.{rules};
 
@@ -34,12 +35,15 @@ pub enum Operation {
 }
 
 // A derived `==` says nothing at so many variants.
-impl PartialEq<Operation> for Operation {
-    ghost equals = { λ x y r. Decides r (x ≡ y) };
+impl PartialEq for Operation {
+    ghost eq = { on number_of ◌==◌ };
 
     ghost laws = { Prim.search (comparing, rules) };
 
-    fn eq(&self, other: &Operation) -> bool {
+    fn eq(&self, other: &Operation) -> bool
+        ensures value { result ≡ (number_of self.now == number_of other.now) }
+        ensures same { IsTrue result ↔ (self.now ≡ other.now) }
+    {
         *self as u8 == *other as u8
     }
 }

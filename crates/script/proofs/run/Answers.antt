@@ -18,14 +18,14 @@ pub loop-rest-preserved : goal.loop-rest-preserved
 loop-rest-preserved c =
     let more : 0 < length c.loop-rest.rest.now = grind (arith, nat_tests) in
     let after = whole_lines c.split_line.result.1.now in
-    let order = line_seen c.in-ok-line.line in
+    let order = line_seen c.in_ok-line.line in
     let wanted = c.has_text.ensures in
     let text = c.split_text_if-text.result in
     let cut : CutOff c.loop-rest.rest.now c.split_line.result.0.now c.split_line.result.1.now text.bytes.now text.rest.now order text.lines = record {
       more = more;
       first = c.split_line.ensures.line;
       behind = c.split_line.ensures.rest;
-      says = c.in-ok-line.ensures;
+      says = c.in_ok-line.ensures;
       text = c.split_text_if-text.ensures.bytes ∙ ap (λ t. cond t (text_of after) []) wanted;
       lines = c.split_text_if-text.ensures.rest ∙ ap (λ t. cond t (behind_text after) after) wanted;
       count = c.split_text_if-text.ensures.lines ∙ ap (λ t. cond t (lines_passed after) 0) wanted;
@@ -34,7 +34,7 @@ loop-rest-preserved c =
       omega (arith, c.split_line.ensures.shorter more, c.split_text_if-text.ensures.bound),
       one_item (view c.loop-rest.interpreter) (view interpreter) c.loop-rest.number c.loop-rest.rest.now c.split_line.result.0.now c.split_line.result.1.now text.bytes.now text.rest.now order text.lines
           (option_map (answer_seen (present (view interpreter))) c.step-answer.result) (string_bytes c.loop-rest.out) (string_bytes c.print.new.out)
-          cut c.step-answer.ensures.value c.step-answer.ensures.after c.in-ok-print.ensures
+          cut c.step-answer.ensures.value c.step-answer.ensures.after c.in_ok-print.ensures
           ∙ c.loop-rest.invariant.1,
     )
 

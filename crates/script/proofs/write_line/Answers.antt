@@ -7,4 +7,4 @@ pub returns : goal.returns
 returns c =
     then_appended c.writeln.result (string_bytes c.args.out.now) (string_bytes c.write.new.out) _
     (told_text (answer_seen (present (view c.args.interpreter.now)) c.args.answer)) (10 ∷ [])
-    c.in-ok-write.ensures c.writeln.ensures.bytes
+    c.in_ok-write.ensures c.writeln.ensures.bytes

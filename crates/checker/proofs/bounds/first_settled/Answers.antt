@@ -21,8 +21,8 @@ loop-code-smaller g c =
     let d = c.args.domain.now in
     omega (arith, is_code (g.D.Domain.model d) (g.met.D.Domain.lawful d) c.loop-code.code c.loop-code.invariant)
 
-pub overflow-add-code : goal.overflow-add-code
-overflow-add-code g c =
+pub overflow_add-code : goal.overflow_add-code
+overflow_add-code g c =
     let d = c.args.domain.now in
     let law = g.met.D.Domain.lawful d in
     omega (arith, is_code (g.D.Domain.model d) law c.loop-code.code c.loop-code.invariant, law.most_size)

@@ -26,5 +26,5 @@ loop-mark-preserved c =
 
 pub returns : goal.returns
 returns c =
-    let e = marked_all c.args.op c.permitted_marks-permitted.result.bits c.loop-mark.marks.bits c.loop-mark.misused (left c.loop-mark.words) (left c.next_mark.new.words) (left c.args.words.now) c.permitted_marks-permitted.ensures.members c.in-default.ensures.value c.next_mark.ensures.after c.loop-mark.invariant in
+    let e = marked_all c.args.op c.permitted_marks-permitted.result.bits c.loop-mark.marks.bits c.loop-mark.misused (left c.loop-mark.words) (left c.next_mark.new.words) (left c.args.words.now) c.permitted_marks-permitted.ensures.members c.in_default.ensures.value c.next_mark.ensures.after c.loop-mark.invariant in
     record { misused = e.0; marks = e.1; after = e.2 }

@@ -6,14 +6,14 @@ use Rattle.reader.specs.Operands.{used_places}
 use Rattle.reader.proofs.Operands.{spelt, written_none, written_some}
 use Rattle.reader.proofs.form.read_written.Goals as goal
 
-pub returns-in-err-first : goal.returns-in-err-first
-returns-in-err-first c =
-    let none = written_none c.args.name.now c.args.operation c.operand_count.result (left c.args.words) (left c.read_marks-misused.new.words) c.operand_count.ensures c.read_marks-misused.ensures.after c.in-err-first.ensures in
+pub returns-in_err-first : goal.returns-in_err-first
+returns-in_err-first c =
+    let none = written_none c.args.name.now c.args.operation c.operand_count.result (left c.args.words) (left c.read_marks-misused.new.words) c.operand_count.ensures c.read_marks-misused.ensures.after c.in_err-first.ensures in
     subst (λ r. Formed r (written c.args.name.now c.args.operation (left c.args.words))) (sym c.from-residual.ensures) none
 
 pub returns : goal.returns
 returns c =
-    let at = c.in-ok-first in
+    let at = c.in_ok-first in
     let told = λ (n : ℕ). used_places n (seen at.first) (seen at.second) (seen at.third) in
     let (args, is, same) = written_some c.args.name.now c.args.operation c.operand_count.result (left c.args.words) (left c.read_marks-misused.new.words) c.operand_count.ensures c.read_marks-misused.ensures.after (told c.operand_count.result) at.ensures in
     let line = spelt c.args.name.now c.args.operation (left c.args.words) args in (

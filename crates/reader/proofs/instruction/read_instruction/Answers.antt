@@ -11,13 +11,13 @@ passed : (g : Over) (c : goal.In-ok-on_line g) → (some_far c.args.written.now 
 passed g c =
     fault_free c.args.too_many (known_names c.args.scope.now) c.args.written.now c.args.line _ c.on_line.result
     (c.on_line.ensures ∙ ap (located c.args.line) c.well_written.ensures)
-    c.in-ok-on_line.was
+    c.in_ok-on_line.was
 
 pub make-requires : goal.make-requires
 make-requires g c = (passed g c).0
 
-pub returns-in-err-on_line : goal.returns-in-err-on_line
-returns-in-err-on_line g c =
+pub returns-in_err-on_line : goal.returns-in_err-on_line
+returns-in_err-on_line g c =
     let m = g.D.Domain.model c.args.domain.now in
     let ns = known_names c.args.scope.now in
     let w = c.args.written.now in
@@ -28,12 +28,12 @@ returns-in-err-on_line g c =
       room = search rules;
     }
 
-pub returns-in-err-instruction : goal.returns-in-err-instruction
-returns-in-err-instruction g c =
+pub returns-in_err-instruction : goal.returns-in_err-instruction
+returns-in_err-instruction g c =
     let m = g.D.Domain.model c.args.domain.now in
     let ns = known_names c.args.scope.now in
     let w = c.args.written.now in
-    let is : c.from-residual-in-err-instruction.result ≡ found_on c.args.line (text_fault c.args.too_many ns w) (instruction_of m ns w) = search rules in
+    let is : c.from-residual-in_err-instruction.result ≡ found_on c.args.line (text_fault c.args.too_many ns w) (instruction_of m ns w) = search rules in
     record {
       value = λ s spells. ap answered is ∙ line_told m ns w s spells c.args.line c.args.too_many;
       line = search rules;
@@ -45,7 +45,7 @@ returns g c =
     let m = g.D.Domain.model c.args.domain.now in
     let ns = known_names c.args.scope.now in
     let w = c.args.written.now in
-    let is : Ok c.in-ok-instruction.instruction ≡ found_on c.args.line (text_fault c.args.too_many ns w) (instruction_of m ns w) = search rules in
+    let is : Ok c.in_ok-instruction.instruction ≡ found_on c.args.line (text_fault c.args.too_many ns w) (instruction_of m ns w) = search rules in
     record {
       value = λ s spells. ap answered is ∙ line_told m ns w s spells c.args.line c.args.too_many;
       line = search rules;

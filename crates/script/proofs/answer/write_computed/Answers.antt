@@ -11,5 +11,5 @@ returns c =
     let outcome = outcome_text c.args.outcome in
     let marks = marks_text c.args.broken in
     let r = c.write_marks.result in
-    then_appended r start after1 _ outcome (codes " breaks" ++ marks) c.in-ok-write_outcome.ensures
-    (then_appended r after1 after2 _ (codes " breaks") marks c.in-ok-write.ensures.bytes c.write_marks.ensures)
+    then_appended r start after1 _ outcome (codes " breaks" ++ marks) c.in_ok-write_outcome.ensures
+    (then_appended r after1 after2 _ (codes " breaks") marks c.in_ok-write.ensures.bytes c.write_marks.ensures)

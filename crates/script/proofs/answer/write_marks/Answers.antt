@@ -7,4 +7,4 @@ pub returns : goal.returns
 returns c =
     let marks = c.args.marks in
     then_appended c.write_mark.result (string_bytes c.args.out.now) (string_bytes c.write_written_marks.new.out) _ (written_marks_text marks) (mark_text marks (record { bits = 8 }) (codes "range"))
-    c.in-ok-write_written_marks.ensures c.write_mark.ensures
+    c.in_ok-write_written_marks.ensures c.write_mark.ensures

@@ -13,5 +13,5 @@ returns c =
     let nsw = mark_text marks (record { bits = 2 }) (codes "nsw") in
     let exact = mark_text marks (record { bits = 4 }) (codes "exact") in
     let r = c.write_mark-3.result in
-    then_appended r start after1 _ nuw (nsw ++ exact) c.in-ok-write_mark.ensures
-    (then_appended r after1 after2 _ nsw exact c.in-ok-write_mark-2.ensures c.write_mark-3.ensures)
+    then_appended r start after1 _ nuw (nsw ++ exact) c.in_ok-write_mark.ensures
+    (then_appended r after1 after2 _ nsw exact c.in_ok-write_mark-2.ensures c.write_mark-3.ensures)

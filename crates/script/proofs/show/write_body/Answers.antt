@@ -11,4 +11,4 @@ loop-at-preserved c =
     let left = shown c.next.new.self in
     let is = next_some (shown c.loop-at.window) left (c.in-Some.at, c.in-Some.instruction) c.in-Some.ensures.value c.in-Some.ensures.after in
     piece_less out (string_bytes c.write_instruction.new.out) (placed_text (record { at = c.in-Some.at; what = c.in-Some.instruction })) (body_text left) _
-    c.in-ok-write_instruction.ensures (ap (λ l. out ++ body_text l) (sym is) ∙ c.loop-at.invariant)
+    c.in_ok-write_instruction.ensures (ap (λ l. out ++ body_text l) (sym is) ∙ c.loop-at.invariant)

@@ -16,7 +16,7 @@ returns c =
     let marks = written_marks_text i.marks in
     let reads = operands_text (operands i) in
     let r = c.writeln.result in
-    let named : after1 ≡ start ++ (at ++ (codes " " ++ name_of i.operation)) = c.in-ok-write.ensures.bytes ∙ ap (λ l. start ++ (at ++ (codes " " ++ l))) c.name-name.ensures in
+    let named : after1 ≡ start ++ (at ++ (codes " " ++ name_of i.operation)) = c.in_ok-write.ensures.bytes ∙ ap (λ l. start ++ (at ++ (codes " " ++ l))) c.name-name.ensures in
     then_appended r start after1 _ (at ++ (codes " " ++ name_of i.operation)) (marks ++ (reads ++ (10 ∷ []))) named
-    (then_appended r after1 after2 _ marks (reads ++ (10 ∷ [])) c.in-ok-write_written_marks.ensures
-    (then_appended r after2 after3 _ reads (10 ∷ []) c.in-ok-write_operands.ensures c.writeln.ensures.bytes))
+    (then_appended r after1 after2 _ marks (reads ++ (10 ∷ [])) c.in_ok-write_written_marks.ensures
+    (then_appended r after2 after3 _ reads (10 ∷ []) c.in_ok-write_operands.ensures c.writeln.ensures.bytes))

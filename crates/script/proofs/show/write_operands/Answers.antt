@@ -11,14 +11,14 @@ returns-then-count-eq1 c =
     let start = string_bytes c.args.out.now in
     let n : operand_count i.operation ≡ 1 = sym c.operand_count-count.ensures ∙ c.if-count-eq1.true in
     let text : operand_text i.first ≡ operands_text (operands i) = sym (append-nil (operand_text i.first)) ∙ sym (ap (λ k. operands_text (take k (i.first ∷ i.second ∷ i.third ∷ []))) n) in
-    c.in-ok-write_operand.ensures ∙ ap (λ l. start ++ l) text
+    c.in_ok-write_operand.ensures ∙ ap (λ l. start ++ l) text
 
 pub returns-then-count-eq2 : goal.returns-then-count-eq2
 returns-then-count-eq2 c =
     let i = c.args.instruction in
     let start = string_bytes c.args.out.now in
     let n : operand_count i.operation ≡ 2 = sym c.operand_count-count.ensures ∙ c.if-count-eq2.true in
-    let both = both_appended start (string_bytes c.write_operand.new.out) (string_bytes c.write_operand-2.new.out) (operand_text i.first) (operand_text i.second) c.in-ok-write_operand.ensures c.in-ok-write_operand-2.ensures in
+    let both = both_appended start (string_bytes c.write_operand.new.out) (string_bytes c.write_operand-2.new.out) (operand_text i.first) (operand_text i.second) c.in_ok-write_operand.ensures c.in_ok-write_operand-2.ensures in
     let text : operand_text i.first ++ operand_text i.second ≡ operands_text (operands i) =
     ap (λ l. operand_text i.first ++ l) (sym (append-nil (operand_text i.second))) ∙ sym (ap (λ k. operands_text (take k (i.first ∷ i.second ∷ i.third ∷ []))) n) in
     both ∙ ap (λ l. start ++ l) text
@@ -37,5 +37,5 @@ returns c =
     let text : first ++ (second ++ third) ≡ operands_text (operands i) =
     ap (λ l. first ++ (second ++ l)) (sym (append-nil third)) ∙ sym (ap (λ k. operands_text (take k (i.first ∷ i.second ∷ i.third ∷ []))) n) in
     appended_is r start _ (first ++ (second ++ third)) (operands_text (operands i)) text
-    (then_appended r start after1 _ first (second ++ third) c.in-ok-write_operand.ensures
-    (then_appended r after1 after2 _ second third c.in-ok-write_operand-2.ensures c.write_operand-3.ensures))
+    (then_appended r start after1 _ first (second ++ third) c.in_ok-write_operand.ensures
+    (then_appended r after1 after2 _ second third c.in_ok-write_operand-2.ensures c.write_operand-3.ensures))

@@ -12,4 +12,4 @@ loop-at-preserved c =
     let left = shown c.next.new.self in
     let is = next_some (shown c.loop-at.window) left (c.in-Some.at, c.in-Some.field-0-1) c.in-Some.ensures.value c.in-Some.ensures.after in
     piece_less out (string_bytes c.write.new.self) (codes " " ++ decimal c.in-Some.at) (numbers_text (records left)) _
-    c.in-ok-write.ensures.bytes (ap (λ l. out ++ numbers_text (records l)) (sym is) ∙ c.loop-at.invariant)
+    c.in_ok-write.ensures.bytes (ap (λ l. out ++ numbers_text (records l)) (sym is) ∙ c.loop-at.invariant)

@@ -12,7 +12,7 @@ returns-in-Sub c =
     let second = c.signed-in-Sub-2 in
     c.overflow-in-Sub.ensures
     ∙ ap₂ (overflow w)
-    (to_z-of_z w32 _ (record { sfits = c.difference.type-inv }) ∙ c.difference.ensures ∙ ap₂ ◌-ℤ◌ (to_z_pos w32 a (omega arith)) (to_z_pos w32 b (omega arith)))
-    (to_z-of_z w32 _ (record { sfits = c.difference-in-Sub.type-inv }) ∙ c.difference-in-Sub.ensures
-    ∙ ap₂ ◌-ℤ◌ (to_z-of_z w32 _ (record { sfits = first.type-inv }) ∙ first.ensures.value) (to_z-of_z w32 _ (record { sfits = second.type-inv }) ∙ second.ensures.value))
+    (to_z-of_z w32 _ (record { sfits = c.difference.type_inv }) ∙ c.difference.ensures ∙ ap₂ ◌-ℤ◌ (to_z_pos w32 a (omega arith)) (to_z_pos w32 b (omega arith)))
+    (to_z-of_z w32 _ (record { sfits = c.difference-in-Sub.type_inv }) ∙ c.difference-in-Sub.ensures
+    ∙ ap₂ ◌-ℤ◌ (to_z-of_z w32 _ (record { sfits = first.type_inv }) ∙ first.ensures.value) (to_z-of_z w32 _ (record { sfits = second.type_inv }) ∙ second.ensures.value))
     ∙ sym (ap (λ o. breaks w o a b) c.in-Sub.is)

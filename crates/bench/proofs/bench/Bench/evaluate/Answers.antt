@@ -19,8 +19,8 @@ returns-then-not-self g c =
       loaded = tt;
     }
 
-pub returns-in-err-outcome : goal.returns-in-err-outcome
-returns-in-err-outcome g c =
+pub returns-in_err-outcome : goal.returns-in_err-outcome
+returns-in_err-outcome g c =
     let b = c.args.self.now in
     let m = g.D.Domain.model b.domain in
     record {
@@ -34,11 +34,11 @@ pub returns : goal.returns
 returns g c =
     let b = c.args.self.now in
     let m = g.D.Domain.model b.domain in
-    let value = evaluated_at m (state b) (view b.table) c.args.inputs.now c.args.choices.now c.in-ok-outcome.outcome
-    (cond-true b.loaded (Some (view b.table)) None c.if-not-self.false) (sym c.in-ok-outcome.ensures) in
+    let value = evaluated_at m (state b) (view b.table) c.args.inputs.now c.args.choices.now c.in_ok-outcome.outcome
+    (cond-true b.loaded (Some (view b.table)) None c.if-not-self.false) (sym c.in_ok-outcome.ensures) in
     record {
       value = sym value;
       after = evaluating_leaves m (state b) c.args.inputs.now c.args.choices.now;
       promise = evaluating_keeps m (g.met.D.Domain.lawful b.domain) (state b) c.args.inputs.now c.args.choices.now;
-      loaded = answers_for_loaded m (g.met.D.Domain.lawful b.domain) (state b) c.args.inputs.now c.args.choices.now c.in-ok-outcome.outcome value;
+      loaded = answers_for_loaded m (g.met.D.Domain.lawful b.domain) (state b) c.args.inputs.now c.args.choices.now c.in_ok-outcome.outcome value;
     }

@@ -32,5 +32,5 @@ loop-place-preserved g c =
       l.invariant.0,
       l.invariant.1,
       turn_back m s.variable_count s.choice_count l.self.variable_count l.place s.digits l.self.digits l.invariant.0
-          c.loop-place-test.true (omega arith) (omega (arith, s.long, s.few_variables, s.few_choices)) l.invariant.2 c.first.result c.in-default.ensures least,
+          c.loop-place-test.true (omega arith) (omega (arith, s.long, s.few_variables, s.few_choices)) l.invariant.2 c.first.result c.in_default.ensures least,
     )

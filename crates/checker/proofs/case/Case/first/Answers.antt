@@ -14,8 +14,8 @@ loop-place-preserved c =
           ∙ ap (λ k. replicate (i + 1) 0 ++ replicate k x) e,
     )
 
-pub invariant-of-result : goal.invariant-of-result
-invariant-of-result c =
+pub invariant_of-result : goal.invariant_of-result
+invariant_of-result c =
     let i = c.loop-place.place in
     let x = c.args.bounds.least in
     let long : length c.loop-place.digits ≡ 12 =

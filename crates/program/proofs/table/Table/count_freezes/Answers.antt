@@ -18,8 +18,8 @@ instruction_of-requires c =
     let w = inside c.args.self.now.records c.loop-at.at s.rest s.chain c.loop-at-test.true in
     record { low = w.0; high = w.1 }
 
-pub overflow-add-count : goal.overflow-add-count
-overflow-add-count c =
+pub overflow_add-count : goal.overflow_add-count
+overflow_add-count c =
     let t = c.args.self.now in
     let freezes-here = ap is_freeze (sym c.instruction_of.ensures) ∙ sym c.is_freeze.ensures ∙ c.if-is_freeze.true in
     let more = counts (links t.records) (instructions t.records) t.first c.loop-at.at c.loop-at.count c.loop-at.invariant c.loop-at-test.true freezes-here in

@@ -55,8 +55,8 @@ chained c =
     let now = λ (l : List ℕ) (f : ℕ). Disjoint l first f (put_before c.args.place t.free ks) o.rest in
     subst (λ l. now l c.take_front-self.result) (sym c.put.ensures.rest) (subst (now l1) (sym c.take_front-self.ensures.value) kept)
 
-pub invariant-of-self : goal.invariant-of-self
-invariant-of-self c =
+pub invariant_of-self : goal.invariant_of-self
+invariant_of-self c =
     let t = c.args.self.now in
     let o = off t c.requires in
     let ks = walk (links t.records) t.first in

@@ -13,8 +13,8 @@ chained c =
     halves (links c.rise-self.new.records) (links c.rise-self-2.new.records) (length c.args.instructions.now) c.rise-self.result c.rise-self-2.result c.requires
     c.rise-self.ensures.chain c.rise-self-2.ensures.chain c.rise-self-2.ensures.others
 
-pub invariant-of-self : goal.invariant-of-self
-invariant-of-self c =
+pub invariant_of-self : goal.invariant_of-self
+invariant_of-self c =
     let n = length c.args.instructions.now in
     let k = sound c.rise-self-2.new.records c.rise-self.result c.rise-self-2.result (rising 1 n) (rising (n + 1) (64 - n)) (omega (arith, c.args.self.now.long)) (chained c)
     (omega (arith, c.requires, length_rising 1 n, length_rising (n + 1) (64 - n))) in

@@ -11,9 +11,9 @@ use Rattle.program.proofs.table.Table.new.Goals.{After-rise-free}
 free : (c : After-rise-free) → Disjoint (links c.rise-free.new.records) 0 c.rise-free.result [] (rising 1 64)
 free c = record { used = refl; spare = c.rise-free.ensures.chain; clear = tt }
 
-pub invariant-of-result : goal.invariant-of-result
-invariant-of-result c =
-    let k = sound c.rise-free.new.records 0 c.rise-free.result [] (rising 1 64) (omega arith) (free (goal.at.invariant-of-result c).After-rise-free) (omega (arith, length_rising 1 64)) in
+pub invariant_of-result : goal.invariant_of-result
+invariant_of-result c =
+    let k = sound c.rise-free.new.records 0 c.rise-free.result [] (rising 1 64) (omega arith) (free (goal.at.invariant_of-result c).After-rise-free) (omega (arith, length_rising 1 64)) in
     (k.long, (k.chains, (k.all, tt)))
 
 pub returns : goal.returns

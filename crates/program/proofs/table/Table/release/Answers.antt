@@ -46,8 +46,8 @@ chained c =
     subst (λ f. Disjoint l2 first f (without at ks) (at ∷ js)) (sym e.value)
     (comes_free l1 l2 first t.free at (without at ks) js left (apart_gone at ks) (clear_among at ks js (among t at c.requires) (chains_of t).clear) e.chain e.others)
 
-pub invariant-of-self : goal.invariant-of-self
-invariant-of-self c =
+pub invariant_of-self : goal.invariant_of-self
+invariant_of-self c =
     let t = c.args.self.now in
     let at = c.args.at in
     let ks = walk (links t.records) t.first in

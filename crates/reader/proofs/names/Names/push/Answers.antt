@@ -5,8 +5,8 @@ use Rattle.reader.proofs.names.Names.push.Goals as goal
 pub bounds-self-self : goal.bounds-self-self
 bounds-self-self c = let t = c.args.self.now in has_room t.names t.count t.long t.few c.requires
 
-pub invariant-of-self-2 : goal.invariant-of-self-2
-invariant-of-self-2 c =
+pub invariant_of-self-2 : goal.invariant_of-self-2
+invariant_of-self-2 c =
     let t = c.args.self.now in
     let room = has_room t.names t.count t.long t.few c.requires in
     (length-set t.names t.count c.args.name ∙ t.long, (omega arith, tt))

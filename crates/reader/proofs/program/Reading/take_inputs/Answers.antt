@@ -10,10 +10,10 @@ use Rattle.reader.proofs.ReadFaults.{located_ok, located_err}
 use Rattle.reader.proofs.Inputs.{inputs_ruled, inputs_refused, inputs_taken}
 use Rattle.reader.proofs.program.Reading.take_inputs.Goals as goal
 
-pub returns-in-err-on_line : goal.returns-in-err-on_line
-returns-in-err-on_line c =
-    let a = c.in-err-on_line.field-0.0 in
-    let (was, on) = located_err c.args.line c.read_inputs.result a (sym c.on_line.ensures ∙ c.in-err-on_line.was) in
+pub returns-in_err-on_line : goal.returns-in_err-on_line
+returns-in_err-on_line c =
+    let a = c.in_err-on_line.field-0.0 in
+    let (was, on) = located_err c.args.line c.read_inputs.result a (sym c.on_line.ensures ∙ c.in_err-on_line.was) in
     let is : c.from-residual.result ≡ Err (Text a) = search rules in
     record {
       value = λ ns e.
@@ -26,7 +26,7 @@ returns-in-err-on_line c =
 pub returns : goal.returns
 returns c =
     let r = c.args.self.now in
-    let was = located_ok c.args.line c.read_inputs.result _ (sym c.on_line.ensures ∙ c.in-ok-on_line.was) in
+    let was = located_ok c.args.line c.read_inputs.result _ (sym c.on_line.ensures ∙ c.in_ok-on_line.was) in
     record {
       value = λ ns e.
           inputs_taken (ltb 8 (length ns)) (twice ns) ns (table c.read_inputs.new.names) (λ xs. record { section = in_Body; inputs = xs; body = named_all (table r.scope.instructions) r.body; result = r.result })

@@ -31,20 +31,20 @@ loop-rest-preserved g c =
       c.loop-rest.invariant.0,
       omega (arith, c.split_line.ensures.shorter more, c.loop-rest.invariant.1),
       line_taken step program_end (reading_of c.loop-rest.reading) after c.loop-rest.number c.split_line.result.0.now (lines c.split_line.result.1.now) (lines c.loop-rest.rest.now) (c.split_line.ensures.meaning more)
-          (ap (left_at after) (sym c.in-ok-take_line.was) ∙ c.take_line.ensures.value)
+          (ap (left_at after) (sym c.in_ok-take_line.was) ∙ c.take_line.ensures.value)
           ∙ c.loop-rest.invariant.2,
     )
 
-pub returns-in-err-take_line : goal.returns-in-err-take_line
-returns-in-err-take_line g c =
+pub returns-in_err-take_line : goal.returns-in_err-take_line
+returns-in_err-take_line g c =
     let step = program_step (g.D.Domain.model c.args.domain.now) in
     let more : 0 < length c.loop-rest.rest.now = grind (arith, nat_tests) in
-    let f = c.in-err-take_line.field-0.0 in
+    let f = c.in_err-take_line.field-0.0 in
     let is : c.from-residual.result ≡ Err f = search rules in
     ap read_of is
     ∙ line_refused step program_end (reading_of c.loop-rest.reading) c.loop-rest.number c.split_line.result.0.now (lines c.split_line.result.1.now) (lines c.loop-rest.rest.now) f (c.split_line.ensures.meaning more)
-    (ap (left_at (reading_of c.take_line.new.self)) (sym c.in-err-take_line.was) ∙ c.take_line.ensures.value)
-    c.in-err-take_line.ensures.line
+    (ap (left_at (reading_of c.take_line.new.self)) (sym c.in_err-take_line.was) ∙ c.take_line.ensures.value)
+    c.in_err-take_line.ensures.line
     ∙ c.loop-rest.invariant.2
 
 pub returns : goal.returns

@@ -1,6 +1,5 @@
-use Rattle.std.proofs.Common.{◌≡◌, Option, sym, ap, ◌∙◌}
-use Rattle.vocabulary.specs.declared.operation.Operation.{Operation}
-use Rattle.vocabulary.specs.Names.{same_word, operations, operation_named}
+use Rattle.std.proofs.Common.{sym, ap, ◌∙◌}
+use Rattle.vocabulary.specs.Names.{same_word, operations}
 use Rattle.vocabulary.proofs.Named.{named_here, named_later, named_nowhere, names_operation}
 use Rattle.vocabulary.proofs.operation.Operation.named.Goals as goal
 

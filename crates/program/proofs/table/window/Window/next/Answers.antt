@@ -26,8 +26,8 @@ next_of-self-requires c =
     let i = inside w.records.now w.at _ (chain_of w) c.if-at-eq0.false in
     record { low = i.0; high = i.1 }
 
-pub invariant-of-self : goal.invariant-of-self
-invariant-of-self c =
+pub invariant_of-self : goal.invariant_of-self
+invariant_of-self c =
     let w = c.args.self.now in
     ((steps (links w.records.now) w.at c.next_of-self.result (chain_of w) c.if-at-eq0.false c.next_of-self.ensures).chain, tt)
 
