@@ -1,4 +1,6 @@
 // Value domains: what they answer, the laws that they keep, and what they refuse.
+#![tactic(auto)]
+
 ghost use Rattle.std.specs.Prelude.{◌≡◌};
 ghost use Rattle.domain.specs.Model.{Model, Lawful};
 

@@ -5,7 +5,7 @@ use Rattle.std.proofs.lemmas.Bool.{cases_Bool, cond-true, cond-false, cond_both,
 use Rattle.domain.specs.declared.Outcome.{Outcome}
 use Rattle.domain.specs.declared.Outcome.TheVariants.{Code, Trap}
 use Rattle.domain.specs.Model.{Model, Within}
-use Rattle.layers.specs.Layers.{union, any, is_poison, is_trap, union_of, some_of, poison_broken, poison_traps, Stands, StandsForAll}
+use Rattle.layers.specs.Layers.{union, any, is_poison, is_trap, union_of, some_of, poison_broken, Stands, StandsForAll}
 use Rattle.domain.proofs.Sets.{misses, within_self}
 use Rattle.layers.specs.Unions.{union_at, union_misses, union_empty, any_at, any_found}
 

@@ -1,6 +1,6 @@
 -- Words keep the laws of a domain.
 use Rattle.std.specs.Prelude.{◌≡◌, ℕ, ◌/◌, ◌%◌, ◌^◌, ◌<◌, ◌≤◌, Bool, true, false, cond, not, ◌&&◌, ◌||◌, T, ◌⊎◌, pos, ◌+ℤ◌, ◌-ℤ◌, ◌*ℤ◌, Some, None, ◌==◌, ◌≢◌, int_div, int_le, int_lt, int_rem, nat_le, nat_lt, refl}
-use Rattle.std.proofs.Common.{ap, subst, ◌∙◌, inl, inr, ⊎_elim, div-le_self, arith, pow_pos}
+use Rattle.std.proofs.Common.{ap, subst, ◌∙◌, ⊎_elim, div-le_self, arith, pow_pos}
 use Rattle.std.proofs.Math.Nat.{mod-le}
 use Rattle.std.specs.Int.Bits.{and_lt}
 use Rattle.std.proofs.lemmas.Nat.{or_lt, xor_lt}

@@ -1,4 +1,6 @@
 // Words of a width from 1 to 8.
+#![tactic(auto)]
+
 ghost use Rattle.std.specs.Prelude.{◌≡◌, ◌+◌, ◌/◌, ◌%◌, ◌^◌, ◌<◌, ◌≤◌, true, ◌||◌, pos, negsuc, ◌*ℤ◌, ◌≤ℤ◌, if◌then◌else◌, Ok, Err, ◌==◌, nat_eq, nat_lt};
 ghost use Rattle.std.specs.Int.Signed.{shr_z};
 ghost use Rattle.domain.specs.declared.fault.DomainFault.TheVariants.{WrongWidth};
