@@ -1,5 +1,4 @@
 -- The model of a pile that is chosen at run time. Assumes nothing.
-use Rattle.std.specs.Prelude.{ℕ}
 use Rattle.domain.specs.Model.{Model}
 use Rattle.words.specs.Words.{words}
 use Rattle.layers.specs.Layers.{trapping, poisoned}

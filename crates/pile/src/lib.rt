@@ -1,4 +1,6 @@
 // Piles of layers over words that are chosen at run time, as one domain type.
+#![tactic(auto)]
+
 ghost use Rattle.std.specs.Prelude.{◌≡◌, ◌≤◌, Ok, Err};
 ghost use Rattle.domain.specs.declared.fault.DomainFault.TheVariants.{WrongWidth};
 ghost use Rattle.words.specs.Words.{words};

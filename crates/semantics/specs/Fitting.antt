@@ -1,7 +1,7 @@
 -- Where a rule fits, found by computation: the one match that can fit, tested point by point. Assumes nothing.
 use Rattle.std.specs.Prelude.{◌≡◌, ℕ, zero, suc, ◌<◌, ◌≤◌, Bool, true, false, cond, not, ◌&&◌, ◌||◌, T, ◌⊎◌, ◌↔◌, List, [], ◌∷◌, length, Some, None, Option, ◌==◌}
 use Rattle.domain.specs.Model.{Model}
-use Rattle.semantics.specs.Programs.{Placed, Program, Formed, All, all, put, reads, has, records}
+use Rattle.semantics.specs.Programs.{Placed, Program, Formed, All, all, put, reads, has}
 use Rattle.semantics.specs.Rules.{Rule, WellMade, numbered, Match, Stands, Distinct, matches, removed, reads_one, any_reads, Fits}
 use Rattle.vocabulary.specs.declared.operation.Operation.{Operation}
 use Rattle.vocabulary.specs.declared.operation.Operation.TheVariants.{Add, Sub, Mul, Shl, Lshr, Ashr, Udiv, Urem, Sdiv, Srem, And, Or, Xor, Eq, Ne, Ult, Ule, Slt, Sle, Copy, Freeze, Select}

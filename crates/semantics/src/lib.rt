@@ -1,4 +1,6 @@
 // What programs, rules, fitting, rewriting and checking mean over any value domain, and the theorems about them.
+#![tactic(auto)]
+
 ghost use Rattle.std.specs.Prelude.{◌≡◌};
 ghost use Rattle.semantics.specs.Rules.{Contextual, StaysFormed, Convicted};
 ghost use Rattle.semantics.specs.Fitting.{FittingExact};
