@@ -4,7 +4,7 @@ use Rattle.domain.specs.Model.{Model, Lawful}
 use Rattle.semantics.specs.Programs.{Refines}
 use Rattle.semantics.specs.Rules.{Rule, WellMade, source_of, target_of, Refutes, ConvictedAt}
 use Rattle.semantics.specs.Cases.{Case, first_refuting, FirstRefutes}
-use Rattle.calls.specs.Bench.{Slot, State, refuted, check_found, check_slot, call, Call}
+use Rattle.calls.specs.Bench.{Slot, State, check_found, check_slot, call, Call}
 use Rattle.calls.specs.Histories.{after, Sound, Enters, RefutedAt, Checks, EntersExactly}
 use Rattle.semantics.proofs.Contextual.{contextual}
 use Rattle.semantics.proofs.Refuted.{convicted}

@@ -3,7 +3,7 @@ use Rattle.std.proofs.Common.{◌≡◌, ℕ, List, [], ◌∷◌, ◌++◌, sym
 use Rattle.domain.specs.declared.Outcome.{Outcome}
 use Rattle.domain.specs.Model.{Model, Lawful}
 use Rattle.calls.specs.Bench.{State, Call, evaluated}
-use Rattle.calls.specs.Histories.{answer, next, after, Promised, AnswersForLoaded}
+use Rattle.calls.specs.Histories.{answer, next, Promised, AnswersForLoaded}
 use Rattle.calls.proofs.Promise.{kept, one_more}
 
 pub promised : (m : Model) → Lawful m → (st : State) (c : Call) (st2 : State) → st2 ≡ next m st c → Promised m st c st2

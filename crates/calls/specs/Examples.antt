@@ -7,7 +7,6 @@ use Rattle.domain.specs.declared.Outcome.TheVariants.{Code}
 use Rattle.pile.specs.Examples.{Examples, house}
 use Rattle.semantics.specs.declared.Operand.{Operand}
 use Rattle.semantics.specs.declared.Operand.TheVariants.{Input, Record, Constant}
-use Rattle.semantics.specs.declared.Instruction.{Instruction}
 use Rattle.semantics.specs.Programs.{value, nothing_yet, step}
 use Rattle.semantics.specs.Cases.{from}
 use Rattle.semantics.specs.Changes.{Loaded}

@@ -1,4 +1,6 @@
 // What the eight calls of a bench do, and what every list of calls keeps, over any value domain.
+#![tactic(auto)]
+
 ghost use Rattle.calls.specs.States.{StartsProper, StaysProper, ReachedProper};
 ghost use Rattle.calls.specs.Refusals.{Refusals};
 ghost use Rattle.calls.specs.Histories.{Kept, EntersExactly, OneMore};

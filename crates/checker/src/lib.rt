@@ -1,4 +1,6 @@
 // The cases of a rule tried in their order over any value domain, for the first that refutes it.
+#![tactic(auto)]
+
 mod bounds;
 pub mod case;
 pub mod number;

@@ -14,7 +14,7 @@ use Rattle.vocabulary.specs.Names.{same_word}
 use Rattle.semantics.proofs.Listed.{length_from}
 use Rattle.semantics.proofs.Numbers.{from_in}
 use Rattle.scan.specs.Pieces.{Bytes}
-use Rattle.text.specs.Words.{and_then, name}
+use Rattle.text.specs.Words.{and_then}
 use Rattle.text.specs.Forms.{in_line, ret_line}
 use Rattle.text.specs.Faults.{Read, accepted, Step, next, first_of, unless, formed_line, line_step, walk, sized}
 use Rattle.text.specs.Instructions.{Named, Names, names_of, place, instruction, instruction_fault}

@@ -11,11 +11,10 @@ use Rattle.semantics.specs.Cases.{keep}
 use Rattle.semantics.proofs.Counts.{reads_count, reads_few}
 use Rattle.scan.specs.Pieces.{Bytes}
 use Rattle.scan.specs.Numbers.{all_digits, digits, worth}
-use Rattle.text.specs.Words.{Argument, a_name, a_number, a_code, only_if, and_then, or_else, each, name, constant_argument, argument}
+use Rattle.text.specs.Words.{Argument, a_name, a_number, a_code, only_if, and_then, or_else, each, constant_argument, argument}
 use Rattle.vocabulary.specs.Names.{operation_named, operand_count, name_of, same_word}
 use Rattle.semantics.specs.Operations.{facts}
 use Rattle.text.specs.Forms.{Written, instruction_line, mark_before, leading_marks, not_a_mark, behind_marks, arguments, written, form, mark}
-use Rattle.text.specs.Instructions.{known}
 use Rattle.text.specs.Neat.{in_set, written_marks}
 use Rattle.text.specs.Writing.{input_name, operand_word, mark_word, instruction_words}
 use Rattle.text.proofs.Spaced.{Good}

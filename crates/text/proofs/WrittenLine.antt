@@ -10,9 +10,8 @@ use Rattle.semantics.specs.Programs.{All, reads}
 use Rattle.semantics.proofs.Members.{holds}
 use Rattle.semantics.specs.Cases.{from}
 use Rattle.scan.specs.Pieces.{Bytes}
-use Rattle.text.specs.Words.{Argument, any, name}
+use Rattle.text.specs.Words.{Argument, any}
 use Rattle.semantics.specs.Operations.{facts}
-use Rattle.text.specs.Forms.{arguments}
 use Rattle.text.specs.Faults.{first_of}
 use Rattle.text.specs.Instructions.{Names, place, among, known, named, operand, sum, made, instruction, outside, unreadable, bad_marks, refuses, unsettled, instruction_fault}
 use Rattle.text.specs.Neat.{in_set, written_marks, Neat}

@@ -1,4 +1,6 @@
 // What the texts of rules and programs mean.
+#![tactic(auto)]
+
 ghost use Rattle.text.specs.Accepted.{RulesWellMade, ProgramsFormed};
 ghost use Rattle.text.specs.Refused.{RulesTold, ProgramsTold, RulesFirstLine, ProgramsFirstLine, SmallestTold};
 ghost use Rattle.text.specs.Writing.{ProgramsReadBack, RulesReadBack};

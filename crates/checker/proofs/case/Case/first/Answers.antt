@@ -20,7 +20,7 @@ invariant_of-result c =
     let x = c.args.bounds.least in
     let long : length c.loop-place.digits ≡ 12 =
     ap length c.loop-place.invariant.1 ∙ omega (arith, length-append (replicate i 0) (replicate (12 - i) x), length-replicate {A = ℕ} i 0, length-replicate (12 - i) x, c.loop-place.invariant.0) in
-    (long, (c.requires.variables, (c.requires.choices, tt)))
+    record { long = long; few_variables = c.requires.variables; few_choices = c.requires.choices }
 
 pub returns : goal.returns
 returns c =

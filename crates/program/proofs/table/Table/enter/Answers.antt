@@ -62,7 +62,7 @@ invariant_of-self c =
     let ks = walk (links t.records) t.first in
     let k = sound c.put.new.records c.insert_before-self.result c.take_front-self.result (put_before c.args.place t.free ks) o.rest (omega (arith, t.long)) (chained c)
     (omega (arith, count_before c.args.place t.free ks, t.all, ap length o.is)) in
-    (k.long, (k.chains, (k.all, tt)))
+    record { long = k.long; chains = k.chains; all = k.all }
 
 pub returns : goal.returns
 returns c =

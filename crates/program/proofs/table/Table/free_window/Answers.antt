@@ -6,7 +6,7 @@ use Rattle.program.proofs.Windows.{same_records}
 use Rattle.program.proofs.table.Table.free_window.Goals as goal
 
 pub invariant_of-result : goal.invariant_of-result
-invariant_of-result c = let t = c.args.self.now in (chained_from (links t.records) t.free _ (chains_of t).spare, tt)
+invariant_of-result c = let t = c.args.self.now in record { chain = chained_from (links t.records) t.free _ (chains_of t).spare }
 
 pub returns : goal.returns
 returns c = let t = c.args.self.now in same_records (instructions t.records) (walk (links t.records) t.free)

@@ -18,7 +18,7 @@ invariant_of-self c =
     let n = length c.args.instructions.now in
     let k = sound c.rise-self-2.new.records c.rise-self.result c.rise-self-2.result (rising 1 n) (rising (n + 1) (64 - n)) (omega (arith, c.args.self.now.long)) (chained c)
     (omega (arith, c.requires, length_rising 1 n, length_rising (n + 1) (64 - n))) in
-    (k.long, (k.chains, (k.all, tt)))
+    record { long = k.long; chains = k.chains; all = k.all }
 
 pub returns : goal.returns
 returns c =

@@ -14,7 +14,7 @@ free c = record { used = refl; spare = c.rise-free.ensures.chain; clear = tt }
 pub invariant_of-result : goal.invariant_of-result
 invariant_of-result c =
     let k = sound c.rise-free.new.records 0 c.rise-free.result [] (rising 1 64) (omega arith) (free (goal.at.invariant_of-result c).After-rise-free) (omega (arith, length_rising 1 64)) in
-    (k.long, (k.chains, (k.all, tt)))
+    record { long = k.long; chains = k.chains; all = k.all }
 
 pub returns : goal.returns
 returns c = shows_loaded c.rise-free.new.records [] 0 c.rise-free.result 0 0 refl (free (goal.at.returns c).After-rise-free)

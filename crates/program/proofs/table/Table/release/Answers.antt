@@ -54,7 +54,7 @@ invariant_of-self c =
     let js = walk (links t.records) t.free in
     let fewer = count_without (links t.records) t.first at ks (chains_of t).used (among t at c.requires) in
     let k = sound c.push_front-self.new.records c.remove-self.result c.push_front-self.result (without at ks) (at ∷ js) (omega (arith, t.long)) (chained c) (omega (arith, fewer, t.all)) in
-    (k.long, (k.chains, (k.all, tt)))
+    record { long = k.long; chains = k.chains; all = k.all }
 
 pub returns : goal.returns
 returns c =

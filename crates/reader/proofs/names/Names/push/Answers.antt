@@ -9,7 +9,7 @@ pub invariant_of-self-2 : goal.invariant_of-self-2
 invariant_of-self-2 c =
     let t = c.args.self.now in
     let room = has_room t.names t.count t.long t.few c.requires in
-    (length-set t.names t.count c.args.name ∙ t.long, (omega arith, tt))
+    record { long = length-set t.names t.count c.args.name ∙ t.long; few = omega arith }
 
 pub returns : goal.returns
 returns c =

@@ -1,4 +1,4 @@
-use Rattle.std.proofs.Common.{◌≡◌, Some, sym, refl, ap, ◌∙◌}
+use Rattle.std.proofs.Common.{Some, sym, ap, ◌∙◌}
 use Rattle.semantics.specs.declared.Instruction.{Instruction}
 use Rattle.chain.specs.Walks.{walk}
 use Rattle.program.specs.View.{links, along}
@@ -29,7 +29,7 @@ next_of-self-requires c =
 pub invariant_of-self : goal.invariant_of-self
 invariant_of-self c =
     let w = c.args.self.now in
-    ((steps (links w.records.now) w.at c.next_of-self.result (chain_of w) c.if-at-eq0.false c.next_of-self.ensures).chain, tt)
+    record { chain = (steps (links w.records.now) w.at c.next_of-self.result (chain_of w) c.if-at-eq0.false c.next_of-self.ensures).chain }
 
 pub returns : goal.returns
 returns c =
