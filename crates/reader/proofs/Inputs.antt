@@ -1,10 +1,10 @@
 -- Names of inputs read one by one against the rule for an `in` line. Assumes nothing.
-use Rattle.std.proofs.Common.{◌≡◌, ℕ, ◌+◌, ◌<◌, ◌≤◌, Bool, true, false, cond, ◌||◌, ltb, leb, List, [], ◌∷◌, ◌++◌, length, Some, None, Ok, Err, Option, Result, sym, refl, ap, ◌∙◌, subst, ⊎_elim, append_assoc, append-nil, arith}
+use Rattle.std.proofs.Common.{◌≡◌, ℕ, ◌≤◌, Bool, true, false, cond, ◌||◌, ltb, leb, List, [], ◌∷◌, ◌++◌, length, Some, None, Ok, Err, Option, Result, sym, refl, ap, ◌∙◌, subst, ⊎_elim, append_assoc, append-nil, arith}
 use Rattle.std.proofs.lemmas.List.{length-append, length_push}
 use Rattle.std.proofs.lemmas.Bool.{cases_Bool, cond-true, cond-false, lt-ltb, le-ltb, leb-true, leb-false}
 use Rattle.vocabulary.specs.Names.{same_word}
 use Rattle.scan.specs.Pieces.{Bytes}
-use Rattle.text.specs.Words.{and_then, any, each, name}
+use Rattle.text.specs.Words.{and_then, each, name}
 use Rattle.text.specs.Faults.{next, wrong, first_of, unless}
 use Rattle.text.specs.Instructions.{among}
 use Rattle.text.specs.ProgramTexts.{Reading as Said, twice}

@@ -1,5 +1,5 @@
 -- Instruction lines by their tokens against what they spell. Assumes nothing.
-use Rattle.std.proofs.Common.{◌≡◌, ℕ, zero, suc, ◌+◌, ◌≤◌, Bool, true, false, cond, ◌||◌, ltb, List, [], ◌∷◌, map, take, None, Ok, Err, Result, sym, refl, ap, ◌∙◌, subst, arith, lit≤}
+use Rattle.std.proofs.Common.{◌≡◌, ℕ, zero, suc, ◌+◌, ◌≤◌, Bool, true, false, cond, ◌||◌, ltb, List, [], ◌∷◌, map, take, None, Ok, Err, Result, sym, refl, ap, ◌∙◌, arith, lit≤}
 use lib.Bits.{bit_or}
 use Rattle.std.proofs.lemmas.List.{take-map}
 use Rattle.std.proofs.lemmas.Bool.{or_parts}
@@ -21,7 +21,7 @@ use Rattle.reader.specs.declared.fault.TextFault.{TextFault}
 use Rattle.reader.specs.declared.fault.TextFault.TheVariants.{NumberOutside, TooMany, BadName, BadMark}
 use Rattle.reader.specs.declared.fault.At.{At}
 use Rattle.reader.specs.declared.form.Written.{Written}
-use Rattle.reader.specs.Tokens.{Seen, seen, told, tokens, Spells}
+use Rattle.reader.specs.Tokens.{Seen, seen, told, Spells}
 use Rattle.reader.specs.ReadFaults.{located, answered}
 use Rattle.reader.specs.Meanings.{far, strange, some, some_far, some_strange, text_fault, meaning, meaning_if, and_then, instruction_of, found_on}
 use Rattle.reader.proofs.Told.{far_told, strange_told, meaning_told, some_of_taken}

@@ -1,5 +1,5 @@
 -- Results that gained a line, and refusals as faults. Assumes nothing.
-use Rattle.std.proofs.Common.{◌≡◌, ℕ, Ok, Err, Result, sym, refl, ap, arith}
+use Rattle.std.proofs.Common.{◌≡◌, ℕ, Ok, Err, Result, sym, ap, arith}
 use Rattle.reader.specs.declared.fault.At.{At}
 use Rattle.reader.specs.ReadFaults.{located}
 

@@ -1,12 +1,12 @@
 -- Instructions under their names, and what the lines of a program do to them. Assumes nothing.
-use Rattle.std.proofs.Common.{◌≡◌, ℕ, suc, ◌<◌, ◌≤◌, Bool, true, false, cond, eqb, leb, List, [], ◌∷◌, ◌++◌, length, take, set, Some, None, Option, Result, sym, refl, ap, ◌∙◌, arith}
+use Rattle.std.proofs.Common.{◌≡◌, ℕ, suc, ◌<◌, ◌≤◌, cond, eqb, leb, List, [], ◌∷◌, ◌++◌, length, take, set, Some, None, Option, Result, sym, refl, ap, ◌∙◌, arith}
 use Rattle.std.proofs.lemmas.Bool.{cond-true, cond-false, eq-eqb, ne_eqb}
 use Rattle.domain.specs.Model.{Model}
 use Rattle.scan.specs.Pieces.{Bytes}
 use Rattle.semantics.specs.declared.Instruction.{Instruction}
 use Rattle.text.specs.Forms.{Written as Spelt}
 use Rattle.text.specs.Faults.{Step, next, wrong, unless}
-use Rattle.text.specs.Instructions.{Named, Names, names_of, bodies, place, instruction, instruction_fault}
+use Rattle.text.specs.Instructions.{Names, names_of, bodies, place, instruction, instruction_fault}
 use Rattle.text.specs.ProgramTexts.{Reading as Said, in_Body, body_line, result_at, result_line}
 use Rattle.reader.specs.declared.fault.ReadFault.{ReadFault}
 use Rattle.reader.specs.ReadFaults.{answered}

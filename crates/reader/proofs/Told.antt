@@ -7,7 +7,6 @@ use Rattle.domain.specs.declared.fault.DomainFault.{DomainFault}
 use Rattle.domain.specs.declared.fault.DomainFault.TheVariants.{NoSettledCode}
 use Rattle.domain.specs.Model.{Model}
 use Rattle.domain.specs.Faults.{settled_code, settled_if_any}
-use Rattle.semantics.specs.declared.Operand.{Operand}
 use Rattle.semantics.specs.declared.Operand.TheVariants.{Constant}
 use Rattle.text.specs.Words.{Argument, a_name, a_number, a_code, any}
 use Rattle.text.specs.Instructions.{Names, constant, operand, outside, unreadable, refuses, unsettled}

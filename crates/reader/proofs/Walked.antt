@@ -1,12 +1,12 @@
 -- A text read line by line: one line taken, one refused, and the end. Assumes nothing.
-use Rattle.std.proofs.Common.{◌≡◌, ℕ, suc, ◌+◌, List, [], ◌∷◌, length, sym, refl, ap, ◌∙◌, add-one}
+use Rattle.std.proofs.Common.{◌≡◌, ℕ, suc, ◌+◌, List, ◌∷◌, length, sym, refl, ap, ◌∙◌, add-one}
 use Rattle.std.proofs.lemmas.List.{nil_from_length}
 use Rattle.domain.specs.declared.fault.DomainFault.{DomainFault}
 use Rattle.domain.specs.declared.fault.DomainFault.TheVariants.{NoSettledCode, WrongWidth}
 use Rattle.domain.specs.Faults.{fault_number}
 use Rattle.scan.specs.Pieces.{Bytes, lines}
 use Rattle.text.specs.Forms.{Form}
-use Rattle.text.specs.Faults.{Fault, text_layer, domain_layer, fault, Read, refused, Step, next, wrong, line_step, go_on, walk}
+use Rattle.text.specs.Faults.{text_layer, domain_layer, fault, Read, refused, Step, next, wrong, line_step, go_on, walk}
 use Rattle.reader.specs.declared.fault.TextFault.{TextFault}
 use Rattle.reader.specs.declared.fault.TextFault.TheVariants.{TooLong, NoForm, NumberOutside, TooMany, BadName, BadMark}
 use Rattle.reader.specs.declared.fault.ReadFault.{ReadFault}

@@ -16,7 +16,7 @@ use Rattle.reader.specs.declared.fault.TextFault.TheVariants.{NumberOutside, Too
 use Rattle.reader.specs.declared.fault.ReadFault.{ReadFault}
 use Rattle.reader.specs.declared.fault.ReadFault.TheVariants.{Text, Domain}
 use Rattle.reader.specs.declared.form.Written.{Written}
-use Rattle.reader.specs.Tokens.{Seen, is_name, is_number, is_code, is_word, seen, tokens}
+use Rattle.reader.specs.Tokens.{Seen, is_name, is_number, is_code, is_word, seen}
 
 abbrev pub far : Seen → Bool
 far (is_name n) = false

@@ -1,5 +1,5 @@
 -- Tokens and forms by what they hold, and not by where that lies. Assumes nothing.
-use Rattle.std.specs.Prelude.{◌≡◌, ℕ, suc, min, Bool, false, List, [], ◌∷◌, map, take, ℤ, pos, negsuc, neg_ℤ, Some, None, Option}
+use Rattle.std.specs.Prelude.{◌≡◌, ℕ, suc, min, false, List, [], ◌∷◌, map, take, ℤ, pos, negsuc, neg_ℤ, Some, None, Option}
 use Rattle.vocabulary.specs.Names.{operand_count}
 use Rattle.scan.specs.Pieces.{Bytes, left}
 use Rattle.text.specs.Words.{Argument, a_name, a_number, a_code, each, name}

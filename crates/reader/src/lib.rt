@@ -1,4 +1,6 @@
 // Reads the texts of programs in place; of rules it tells the forms of lines alone.
+#![tactic(auto)]
+
 pub mod facts;
 pub mod fault;
 pub mod form;

@@ -1,5 +1,7 @@
 // Words of every width, at every operation and pair of codes, held to a second way of computing:
 // steps around the circle of codes, repeated subtraction, sign bits and bit columns in the place of exact integers.
+#![tactic(auto)]
+
 use domain::{Domain, Outcome};
 use vocabulary::marks::Marks;
 use vocabulary::operation::{OPERATIONS, Operation};

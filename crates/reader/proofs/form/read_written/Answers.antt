@@ -9,7 +9,7 @@ use Rattle.reader.proofs.form.read_written.Goals as goal
 pub returns-in_err-first : goal.returns-in_err-first
 returns-in_err-first c =
     let none = written_none c.args.name.now c.args.operation c.operand_count.result (left c.args.words) (left c.read_marks-misused.new.words) c.operand_count.ensures c.read_marks-misused.ensures.after c.in_err-first.ensures in
-    subst (λ r. Formed r (written c.args.name.now c.args.operation (left c.args.words))) (sym c.from-residual.ensures) none
+    subst (λ r. Formed r (written c.args.name.now c.args.operation (left c.args.words))) (sym c.from_residual.ensures) none
 
 pub returns : goal.returns
 returns c =

@@ -5,9 +5,9 @@ use Rattle.reader.specs.Meanings.{some_far, text_fault, instruction_of, found_on
 use Rattle.reader.proofs.Meanings.{fault_free, line_told}
 use Rattle.reader.proofs.instruction.read_instruction.Given.{Over}
 use Rattle.reader.proofs.instruction.read_instruction.Goals as goal
-use Rattle.reader.proofs.instruction.read_instruction.Goals.{In-ok-on_line}
+use Rattle.reader.proofs.instruction.read_instruction.Goals.{In_ok-on_line}
 
-passed : (g : Over) (c : goal.In-ok-on_line g) → (some_far c.args.written.now ≡ false) × (c.args.too_many ≡ false)
+passed : (g : Over) (c : goal.In_ok-on_line g) → (some_far c.args.written.now ≡ false) × (c.args.too_many ≡ false)
 passed g c =
     fault_free c.args.too_many (known_names c.args.scope.now) c.args.written.now c.args.line _ c.on_line.result
     (c.on_line.ensures ∙ ap (located c.args.line) c.well_written.ensures)
@@ -21,7 +21,7 @@ returns-in_err-on_line g c =
     let m = g.D.Domain.model c.args.domain.now in
     let ns = known_names c.args.scope.now in
     let w = c.args.written.now in
-    let is : c.from-residual.result ≡ found_on c.args.line (text_fault c.args.too_many ns w) (instruction_of m ns w) = search rules in
+    let is : c.from_residual.result ≡ found_on c.args.line (text_fault c.args.too_many ns w) (instruction_of m ns w) = search rules in
     record {
       value = λ s spells. ap answered is ∙ line_told m ns w s spells c.args.line c.args.too_many;
       line = search rules;
@@ -33,7 +33,7 @@ returns-in_err-instruction g c =
     let m = g.D.Domain.model c.args.domain.now in
     let ns = known_names c.args.scope.now in
     let w = c.args.written.now in
-    let is : c.from-residual-in_err-instruction.result ≡ found_on c.args.line (text_fault c.args.too_many ns w) (instruction_of m ns w) = search rules in
+    let is : c.from_residual-in_err-instruction.result ≡ found_on c.args.line (text_fault c.args.too_many ns w) (instruction_of m ns w) = search rules in
     record {
       value = λ s spells. ap answered is ∙ line_told m ns w s spells c.args.line c.args.too_many;
       line = search rules;
@@ -49,5 +49,5 @@ returns g c =
     record {
       value = λ s spells. ap answered is ∙ line_told m ns w s spells c.args.line c.args.too_many;
       line = search rules;
-      room = (passed g (goal.at.returns g c).In-ok-on_line).1;
+      room = (passed g (goal.at.returns g c).In_ok-on_line).1;
     }

@@ -27,7 +27,7 @@ returns-in_err-outcome g c =
       value = search rules;
       after = evaluating_leaves m (state b) c.args.inputs.now c.args.choices.now;
       promise = evaluating_keeps m (g.met.D.Domain.lawful b.domain) (state b) c.args.inputs.now c.args.choices.now;
-      loaded = IfOk-from_err c.from-residual.result (λ o. AnswersForLoaded m (state b) c.args.inputs.now o) c.from-residual.ensures.0;
+      loaded = IfOk-from_err c.from_residual.result (λ o. AnswersForLoaded m (state b) c.args.inputs.now o) c.from_residual.ensures.0;
     }
 
 pub returns : goal.returns

@@ -16,7 +16,7 @@ returns-in_err-program g c =
     let m = g.D.Domain.model b.domain in
     let st = state b in
     let e = sym c.in_err-program.ensures in
-    let p = err_from_is_err_and c.from-residual.result c.from-residual.ensures.1 in
+    let p = err_from_is_err_and c.from_residual.result c.from_residual.ensures.1 in
     let after = sym (ap (λ x. (load_read st x).1) e) in
     record {
       value = ap load_answer (p.1 ∙ ap Err p.2) ∙ sym (ap (λ x. (load_read st x).0) e);

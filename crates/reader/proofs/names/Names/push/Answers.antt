@@ -1,4 +1,4 @@
-use Rattle.std.proofs.Common.{◌<◌, ◌∙◌, arith, length-set}
+use Rattle.std.proofs.Common.{◌∙◌, arith, length-set}
 use Rattle.reader.proofs.NameTables.{has_room, listed_push}
 use Rattle.reader.proofs.names.Names.push.Goals as goal
 

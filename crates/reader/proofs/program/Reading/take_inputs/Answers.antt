@@ -1,4 +1,4 @@
-use Rattle.std.proofs.Common.{◌≡◌, ltb, length, Ok, Err, sym, ap, ◌∙◌, rules}
+use Rattle.std.proofs.Common.{◌≡◌, ltb, length, Err, sym, ap, ◌∙◌, rules}
 use Rattle.scan.specs.Pieces.{left}
 use Rattle.text.specs.ProgramTexts.{in_Body, twice}
 use Rattle.reader.specs.declared.fault.ReadFault.TheVariants.{Text}
@@ -14,7 +14,7 @@ pub returns-in_err-on_line : goal.returns-in_err-on_line
 returns-in_err-on_line c =
     let a = c.in_err-on_line.field-0.0 in
     let (was, on) = located_err c.args.line c.read_inputs.result a (sym c.on_line.ensures ∙ c.in_err-on_line.was) in
-    let is : c.from-residual.result ≡ Err (Text a) = search rules in
+    let is : c.from_residual.result ≡ Err (Text a) = search rules in
     record {
       value = λ ns e.
           ap (left_at _) is

@@ -15,7 +15,7 @@ returns-in_err-instruction g c =
     let ns = table r.scope.instructions in
     let few : length ns ≤ length r.body = omega (arith, c.len-place.ensures.value, c.len-place.ensures.bound, r.long) in
     let f = c.in_err-instruction.field-0.0 in
-    let is : c.from-residual.result ≡ Err f = search rules in
+    let is : c.from_residual.result ≡ Err f = search rules in
     record {
       value = λ s spells.
           ap (left_at _) is

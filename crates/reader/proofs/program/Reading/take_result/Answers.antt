@@ -1,4 +1,4 @@
-use Rattle.std.proofs.Common.{◌≡◌, ℕ, ◌≤◌, length, Some, None, sym, ap, ◌∙◌, add-one, arith}
+use Rattle.std.proofs.Common.{ℕ, ◌≤◌, length, Some, None, ap, ◌∙◌, add-one, arith}
 use Rattle.text.specs.Faults.{next, wrong}
 use Rattle.text.specs.ProgramTexts.{at_end}
 use Rattle.reader.specs.ReadFaults.{read_fault}
@@ -36,7 +36,7 @@ returns-in-None c =
     let few : length ns ≤ length r.body = omega (arith, c.len.ensures.value, c.len.ensures.bound, r.long) in
     record {
       value =
-          ap (λ f. wrong (read_fault f).number) c.text_in-None.ensures
+          ap (λ f. wrong (read_fault f).number) c.text-in-None.ensures
           ∙ result_of_some ns r.body few (reading_of r) c.args.name.now (λ e. omega (arith, c.len.ensures.value, c.if-len-eq0.false)) None c.in-None.ensures.value;
-      line = ap (λ f. (read_fault f).line) c.text_in-None.ensures;
+      line = ap (λ f. (read_fault f).line) c.text-in-None.ensures;
     }

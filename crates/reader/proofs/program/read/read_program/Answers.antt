@@ -1,10 +1,10 @@
-use Rattle.std.proofs.Common.{◌≡◌, ◌<◌, length, Ok, Err, sym, ap, ◌∙◌, arith, rules}
+use Rattle.std.proofs.Common.{◌≡◌, ◌<◌, length, Err, sym, ap, ◌∙◌, arith, rules}
 use Rattle.std.proofs.lemmas.Bool.Decides.{nat_tests}
 use Rattle.scan.specs.Pieces.{lines}
 use Rattle.text.specs.Faults.{walk}
 use Rattle.text.specs.ProgramTexts.{program_step, program_end, nothing_read}
 use Rattle.text.proofs.InPlace.{read_starts}
-use Rattle.reader.specs.ReadFaults.{left_at, OnLine}
+use Rattle.reader.specs.ReadFaults.{left_at}
 use Rattle.reader.specs.Readings.{reading_of}
 use Rattle.reader.specs.Programs.{read_of}
 use Rattle.reader.proofs.Walked.{line_taken, line_refused, lines_ended}
@@ -40,7 +40,7 @@ returns-in_err-take_line g c =
     let step = program_step (g.D.Domain.model c.args.domain.now) in
     let more : 0 < length c.loop-rest.rest.now = grind (arith, nat_tests) in
     let f = c.in_err-take_line.field-0.0 in
-    let is : c.from-residual.result ≡ Err f = search rules in
+    let is : c.from_residual.result ≡ Err f = search rules in
     ap read_of is
     ∙ line_refused step program_end (reading_of c.loop-rest.reading) c.loop-rest.number c.split_line.result.0.now (lines c.split_line.result.1.now) (lines c.loop-rest.rest.now) f (c.split_line.ensures.meaning more)
     (ap (left_at (reading_of c.take_line.new.self)) (sym c.in_err-take_line.was) ∙ c.take_line.ensures.value)
