@@ -1,5 +1,5 @@
 -- What calls answer where a program is loaded.
-use Rattle.std.proofs.Common.{◌≡◌, ℕ, List, Some, None, Option, sym, refl, ap, ◌∙◌}
+use Rattle.std.proofs.Common.{◌≡◌, ℕ, List, Some, None, Option, refl, ap, ◌∙◌}
 use Rattle.domain.specs.declared.Outcome.{Outcome}
 use Rattle.domain.specs.Model.{Model, Lawful}
 use Rattle.semantics.specs.Programs.{Evaluated, evaluated, unevaluated, evaluation}

@@ -1,5 +1,4 @@
 -- The refusals of a bench as faults, each by its number, its layer and its line. Assumes nothing.
-use Rattle.std.specs.Prelude.{ℕ}
 use Rattle.program.specs.Faults.{fault_number}
 use Rattle.reader.specs.ReadFaults.{read_fault}
 use Rattle.text.specs.Faults.{Fault, Layer, text_layer, domain_layer, rule_layer, book_layer, program_layer, fault}

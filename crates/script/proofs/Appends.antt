@@ -1,5 +1,5 @@
 -- What is appended to a text, piece by piece.
-use Rattle.std.proofs.Common.{◌≡◌, ℕ, List, ◌++◌, IfOk, Ok, Err, Result, sym, ap, ◌∙◌, subst, append_assoc}
+use Rattle.std.proofs.Common.{◌≡◌, ℕ, List, ◌++◌, IfOk, Ok, Err, Result, ap, ◌∙◌, subst, append_assoc}
 
 -- a piece and then another
 pub then_appended : {X Y : Type 0} (r : Result X Y) (x y z a b : List ℕ) → y ≡ x ++ a → IfOk r (λ _. z ≡ y ++ b) → IfOk r (λ _. z ≡ x ++ (a ++ b))

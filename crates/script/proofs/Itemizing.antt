@@ -1,7 +1,7 @@
 -- One item more of a script, and its end. Assumes nothing.
 use Rattle.std.proofs.Common.{◌≡◌, ℕ, suc, ◌+◌, ◌<◌, Bool, true, false, cond, List, [], ◌∷◌, ◌++◌, length, Some, None, Option, sym, refl, ap, ◌∙◌, append_assoc, append-nil, arith}
 use Rattle.scan.specs.Pieces.{Bytes, first_line, after_line, whole_lines}
-use Rattle.scan.proofs.Wholes.{FirstWhole, first_whole}
+use Rattle.scan.proofs.Wholes.{first_whole}
 use Rattle.script.specs.Lines.{Ordered, line_read}
 use Rattle.script.specs.TextLines.{closes, text_of, behind_text, lines_passed}
 use Rattle.script.specs.Items.{Item, has_text, item_of, with_more, items_from}

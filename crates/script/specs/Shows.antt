@@ -1,5 +1,5 @@
 -- What `show` prints. Assumes nothing.
-use Rattle.std.specs.Prelude.{ℕ, ◌+◌, List, [], ◌∷◌, ◌++◌, length, take, Some, None, codes, decimal, Option}
+use Rattle.std.specs.Prelude.{◌+◌, List, [], ◌∷◌, ◌++◌, length, take, Some, None, codes, decimal, Option}
 use Rattle.vocabulary.specs.Names.{name_of, operand_count}
 use Rattle.semantics.specs.Programs.{Placed, Program}
 use Rattle.semantics.specs.Changes.{Loaded}

@@ -12,7 +12,7 @@ use bench::fault::{BenchFault, FaultLayer};
 use domain::Outcome;
 use domain::fault::DomainFault;
 use program::table::Table;
-use std::fmt;
+use std::alloc::AllocError;
 use vocabulary::marks::Marks;
 
 #[derive(Clone, Copy)]
@@ -32,7 +32,7 @@ pub enum Answer {
     ScriptError(u64),
 }
 
-fn write_mark(out: &mut String, marks: Marks, mark: Marks, name: &str) -> fmt::Result
+fn write_mark(out: &mut String, marks: Marks, mark: Marks, name: &str) -> Result<(), AllocError>
     ensures { OnOk result (string_bytes out.new ≡ string_bytes out.old ++ mark_text marks mark name.now) }
 {
     if marks.meets(mark) {
@@ -42,7 +42,7 @@ fn write_mark(out: &mut String, marks: Marks, mark: Marks, name: &str) -> fmt::R
 }
 
 // The marks of a set that can be written, from the smallest number up.
-pub fn write_written_marks(out: &mut String, marks: Marks) -> fmt::Result
+pub fn write_written_marks(out: &mut String, marks: Marks) -> Result<(), AllocError>
     ensures { OnOk result (string_bytes out.new ≡ string_bytes out.old ++ written_marks_text marks) }
 {
     write_mark(out, marks, Marks::NUW, "nuw")?;
@@ -51,14 +51,14 @@ pub fn write_written_marks(out: &mut String, marks: Marks) -> fmt::Result
 }
 
 // All marks of a set, from the smallest number up.
-fn write_marks(out: &mut String, marks: Marks) -> fmt::Result
+fn write_marks(out: &mut String, marks: Marks) -> Result<(), AllocError>
     ensures { OnOk result (string_bytes out.new ≡ string_bytes out.old ++ marks_text marks) }
 {
     write_written_marks(out, marks)?;
     write_mark(out, marks, Marks::RANGE, "range")
 }
 
-fn write_outcome(out: &mut String, outcome: Outcome) -> fmt::Result
+fn write_outcome(out: &mut String, outcome: Outcome) -> Result<(), AllocError>
     ensures { OnOk result (string_bytes out.new ≡ string_bytes out.old ++ outcome_text outcome) }
 {
     match outcome {
@@ -67,7 +67,7 @@ fn write_outcome(out: &mut String, outcome: Outcome) -> fmt::Result
     }
 }
 
-fn write_computed(out: &mut String, outcome: Outcome, broken: Marks) -> fmt::Result
+fn write_computed(out: &mut String, outcome: Outcome, broken: Marks) -> Result<(), AllocError>
     ensures { OnOk result (string_bytes out.new ≡ string_bytes out.old ++ computed_text outcome broken) }
 {
     write_outcome(out, outcome)?;
@@ -87,7 +87,12 @@ fn layer_name(layer: FaultLayer) -> &'static str
     }
 }
 
-fn write_refusal(out: &mut String, number: u8, layer: FaultLayer, line: u16) -> fmt::Result
+fn write_refusal(
+    out: &mut String,
+    number: u8,
+    layer: FaultLayer,
+    line: u16,
+) -> Result<(), AllocError>
     ensures { OnOk result (string_bytes out.new ≡ string_bytes out.old ++ fault_text (record { number = number; layer = layer_seen layer; line = line })) }
 {
     let name = layer_name(layer);
@@ -95,7 +100,11 @@ fn write_refusal(out: &mut String, number: u8, layer: FaultLayer, line: u16) -> 
 }
 
 // Writes an answer at the end of a text, without a line feed; `program` is the present one.
-pub fn write_answer(out: &mut String, answer: Answer, program: Option<&Table>) -> fmt::Result
+pub fn write_answer(
+    out: &mut String,
+    answer: Answer,
+    program: Option<&Table>,
+) -> Result<(), AllocError>
     ensures { OnOk result (string_bytes out.new ≡ string_bytes out.old ++ told_text (answer_seen (without_rules (option_map (λ t. table-view t.now) program.entry)) answer)) }
 {
     match answer {

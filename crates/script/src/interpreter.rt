@@ -12,7 +12,7 @@ use bench::bench::Bench;
 use domain::Domain;
 use pile::{Pile, build};
 use program::table::Table;
-use std::fmt;
+use std::alloc::AllocError;
 
 // The bench that the last accepted `bench` made.
 #[derive(Drop)]
@@ -136,7 +136,7 @@ impl Interpreter {
     }
 
     // Writes an answer to what it was just asked.
-    pub fn write(&self, out: &mut String, answer: Answer) -> fmt::Result
+    pub fn write(&self, out: &mut String, answer: Answer) -> Result<(), AllocError>
         ensures { OnOk result (string_bytes out.new ≡ string_bytes out.old ++ told_text (answer_seen (present (view self.now)) answer)) }
     {
         write_answer(out, answer, self.program())

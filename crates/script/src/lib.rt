@@ -1,4 +1,6 @@
 // Scripts that ask value domains, load programs and evaluate them, and what is printed for them.
+#![tactic(auto)]
+
 ghost use Rattle.std.specs.Prelude.{◌≡◌, ◌++◌, IfOk, Some, string_bytes, OnOk};
 ghost use Rattle.std.specs.Option.{option_map};
 ghost use Rattle.script.specs.Transcripts.{view, present, answer_seen, printed, output};
@@ -8,7 +10,6 @@ use command::read_line;
 use interpreter::Interpreter;
 use scan::split_line;
 use std::alloc::{AllocError, Global};
-use std::fmt;
 use texts::split_text_if;
 
 pub mod answer;
@@ -17,7 +18,7 @@ pub mod interpreter;
 mod show;
 pub mod texts;
 
-fn write_line(out: &mut String, interpreter: &Interpreter, answer: Answer) -> fmt::Result
+fn write_line(out: &mut String, interpreter: &Interpreter, answer: Answer) -> Result<(), AllocError>
     ensures { OnOk result (string_bytes out.new ≡ string_bytes out.old ++ printed (Some (answer_seen (present (view interpreter.now)) answer))) }
 {
     interpreter.write(out, answer)?;
@@ -35,10 +36,7 @@ fn print(
     let Some(answer) = answer else {
         return Ok(());
     };
-    match write_line(out, interpreter, answer) {
-        Ok(()) => Ok(()),
-        Err(_) => Err(AllocError),
-    }
+    write_line(out, interpreter, answer)
 }
 
 // All that is printed for a script.

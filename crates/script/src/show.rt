@@ -11,9 +11,9 @@ use crate::answer::write_written_marks;
 use program::table::Table;
 use program::table::window::Window;
 use semantics::{Instruction, Operand};
-use std::fmt;
+use std::alloc::AllocError;
 
-fn write_operand(out: &mut String, operand: Operand) -> fmt::Result
+fn write_operand(out: &mut String, operand: Operand) -> Result<(), AllocError>
     ensures { OnOk result (string_bytes out.new ≡ string_bytes out.old ++ operand_text operand) }
 {
     match operand {
@@ -27,7 +27,7 @@ fn write_operand(out: &mut String, operand: Operand) -> fmt::Result
 }
 
 // As many operands as the operation takes.
-fn write_operands(out: &mut String, instruction: Instruction) -> fmt::Result
+fn write_operands(out: &mut String, instruction: Instruction) -> Result<(), AllocError>
     ensures { OnOk result (string_bytes out.new ≡ string_bytes out.old ++ operands_text (operands instruction)) }
 {
     let count = instruction.operation.operand_count();
@@ -42,7 +42,7 @@ fn write_operands(out: &mut String, instruction: Instruction) -> fmt::Result
     write_operand(out, instruction.third)
 }
 
-fn write_instruction(out: &mut String, at: u8, instruction: Instruction) -> fmt::Result
+fn write_instruction(out: &mut String, at: u8, instruction: Instruction) -> Result<(), AllocError>
     ensures { OnOk result (string_bytes out.new ≡ string_bytes out.old ++ placed_text (record { at = at; what = instruction })) }
 {
     let name = instruction.operation.name();
@@ -53,7 +53,7 @@ fn write_instruction(out: &mut String, at: u8, instruction: Instruction) -> fmt:
 }
 
 // A line for each instruction.
-fn write_body(out: &mut String, mut window: Window) -> fmt::Result
+fn write_body(out: &mut String, mut window: Window) -> Result<(), AllocError>
     ensures { OnOk result (string_bytes out.new ≡ string_bytes out.old ++ body_text (shown window.entry)) }
 {
     while let Some((at, instruction)) = window.next() {
@@ -62,7 +62,7 @@ fn write_body(out: &mut String, mut window: Window) -> fmt::Result
     Ok(())
 }
 
-fn write_records(out: &mut String, mut window: Window) -> fmt::Result
+fn write_records(out: &mut String, mut window: Window) -> Result<(), AllocError>
     ensures { OnOk result (string_bytes out.new ≡ string_bytes out.old ++ numbers_text (records-of (shown window.entry))) }
 {
     while let Some((at, _)) = window.next() {
@@ -72,7 +72,7 @@ fn write_records(out: &mut String, mut window: Window) -> fmt::Result
 }
 
 // A loaded program and its free records.
-fn write_program(out: &mut String, table: &Table) -> fmt::Result
+fn write_program(out: &mut String, table: &Table) -> Result<(), AllocError>
     ensures { OnOk result (string_bytes out.new ≡ string_bytes out.old ++ loaded_text (view table.now)) }
 {
     let inputs = table.inputs();
@@ -86,7 +86,7 @@ fn write_program(out: &mut String, table: &Table) -> fmt::Result
 }
 
 // The present program, if there is one, and a book without rules.
-pub fn write_present(out: &mut String, program: Option<&Table>) -> fmt::Result
+pub fn write_present(out: &mut String, program: Option<&Table>) -> Result<(), AllocError>
     ensures { OnOk result (string_bytes out.new ≡ string_bytes out.old ++ show_text (without_rules (option_map (λ t. view t.now) program.entry))) }
 {
     match program {

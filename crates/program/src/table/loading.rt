@@ -39,15 +39,15 @@ impl Table {
 
     // Loads a program in place of the former one: its instructions stand in the records from 1 on, and the rest are free, rising.
     // The caller owes that there are records for all instructions.
-    pub fn load(&mut self, instructions: &[Instruction], inputs: u8, res: u8)
+    pub fn load(&mut self, instructions: &[Instruction], inputs: u8, returned: u8)
         requires { length instructions.now ≤ 64 }
-        ensures { view self.new ≡ as_loaded (record { inputs = inputs; body = numbered 1 instructions.now; result = res }) }
+        ensures { view self.new ≡ as_loaded (record { inputs = inputs; body = numbered 1 instructions.now; result = returned }) }
     {
         let count = instructions.len() as u8;
         fill(&mut self.records, instructions);
         self.first = chain::rise(&mut self.records, 1, count);
         self.free = chain::rise(&mut self.records, count + 1, 64);
         self.inputs = inputs;
-        self.result = res;
+        self.result = returned;
     }
 }

@@ -1,10 +1,9 @@
-use Rattle.std.proofs.Common.{◌≡◌, ◌+◌, ◌<◌, ◌≤◌, cond, [], length, string_bytes, sym, ap, ◌∙◌, arith}
+use Rattle.std.proofs.Common.{◌≡◌, ◌<◌, cond, [], length, string_bytes, ap, ◌∙◌, arith}
 use Rattle.std.proofs.lemmas.Bool.Decides.{nat_tests}
 use Rattle.std.specs.Option.{option_map}
 use Rattle.scan.specs.Pieces.{whole_lines}
 use Rattle.script.specs.Lines.{line_seen}
 use Rattle.script.specs.TextLines.{text_of, behind_text, lines_passed}
-use Rattle.script.specs.Items.{has_text}
 use Rattle.script.specs.Transcripts.{view, present, answer_seen}
 use Rattle.script.proofs.Itemizing.{CutOff, one_item, no_item}
 use Rattle.script.proofs.run.Goals as goal

@@ -1,4 +1,4 @@
-use Rattle.std.proofs.Common.{◌≡◌, ◌++◌, string_bytes, sym, ap, ◌∙◌}
+use Rattle.std.proofs.Common.{◌++◌, string_bytes, sym, ap, ◌∙◌}
 use Rattle.program.specs.Windows.{shown}
 use Rattle.program.proofs.Windows.{next_some}
 use Rattle.script.specs.Shows.{placed_text, body_text}

@@ -1,4 +1,4 @@
-use Rattle.std.proofs.Common.{◌≡◌, ℕ, [], ◌∷◌, ◌++◌, take, string_bytes, sym, ap, ◌∙◌, append-nil, arith}
+use Rattle.std.proofs.Common.{◌≡◌, [], ◌∷◌, ◌++◌, take, string_bytes, sym, ap, ◌∙◌, append-nil}
 use Rattle.vocabulary.specs.Names.{operand_count}
 use Rattle.script.specs.Shows.{operand_text, operands_text, operands}
 use Rattle.script.proofs.Appends.{both_appended, then_appended, appended_is}

@@ -1,4 +1,4 @@
-use Rattle.std.proofs.Common.{◌≡◌, ◌++◌, string_bytes, codes, decimal, sym, ap, ◌∙◌}
+use Rattle.std.proofs.Common.{◌++◌, string_bytes, codes, decimal, sym, ap, ◌∙◌}
 use Rattle.semantics.specs.Programs.{records}
 use Rattle.program.specs.Windows.{shown}
 use Rattle.program.proofs.Windows.{next_some}

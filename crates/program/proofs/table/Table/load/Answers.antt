@@ -25,4 +25,4 @@ returns c =
     let is = c.args.instructions.now in
     let one : instructions c.rise-self.new.records ≡ instructions c.fill.new.records = ap instructions c.rise-self.ensures.rest ∙ same_instructions c.fill.new.records (links c.rise-self.new.records) in
     let two : instructions c.rise-self-2.new.records ≡ instructions c.rise-self.new.records = ap instructions c.rise-self-2.ensures.rest ∙ same_instructions c.rise-self.new.records (links c.rise-self-2.new.records) in
-    shows_loaded c.rise-self-2.new.records is c.rise-self.result c.rise-self-2.result c.args.inputs c.args.res (ap (take (length is)) (two ∙ one) ∙ c.fill.ensures) (chained (goal.at.returns c).After-rise-self-2)
+    shows_loaded c.rise-self-2.new.records is c.rise-self.result c.rise-self-2.result c.args.inputs c.args.returned (ap (take (length is)) (two ∙ one) ∙ c.fill.ensures) (chained (goal.at.returns c).After-rise-self-2)
