@@ -1,3 +1,5 @@
+#![tactic(auto)]
+
 // Programs on a bench over the house pile of width 4: what is refused at which line, the limits, and evaluations.
 #[cfg(test)]
 mod tests {
@@ -6,7 +8,6 @@ mod tests {
     use domain::Outcome;
     use layers::poison::Poison;
     use std::alloc::{AllocError, Global};
-    use std::fmt;
     use std::process::Abort;
     use std::test::Fail;
     use vocabulary::marks::Marks;
@@ -144,8 +145,8 @@ mod tests {
         evaluates(&rt, choice, &[0], &[], Outcome::Code(4))
     }
 
-    fn fault_number(res: Result<Outcome, BenchFault>) -> u8 {
-        match res {
+    fn fault_number(answer: Result<Outcome, BenchFault>) -> u8 {
+        match answer {
             Ok(_) => 0,
             Err(fault) => fault.number(),
         }
@@ -167,7 +168,7 @@ mod tests {
     }
 
     // Eight inputs and so many sums, each of the one before and the last input.
-    fn write_sums(out: &mut String, count: u32) -> fmt::Result {
+    fn write_sums(out: &mut String, count: u32) -> Result<(), AllocError> {
         write!(out, "in %a %b %c %d %e %f %g %h\n%r1 = add %a, %b\n")?;
         for k in 1..count {
             let next = k.wrapping_add(1);
@@ -178,10 +179,8 @@ mod tests {
 
     fn sums(heap: Global, count: u32) -> Result<String, AllocError> {
         let mut out = String::new(heap);
-        match write_sums(&mut out, count) {
-            Ok(()) => Ok(out),
-            Err(_) => Err(AllocError),
-        }
+        write_sums(&mut out, count)?;
+        Ok(out)
     }
 
     #[test]

@@ -1,4 +1,6 @@
 // Reads a script from standard input and prints what its lines are answered.
+#![tactic(auto)]
+
 use std::alloc::Global;
 use std::io;
 use std::io::Read;
