@@ -25,7 +25,7 @@ CHOSEN = {
 }
 
 # `result` is what a clause calls the value that is returned
-CHOSEN_IN = {"words": {"result": "result_of"}}
+CHOSEN_IN = {crate: {"result": "result_of"} for crate in ("domain", "words")}
 
 
 def files():

@@ -60,7 +60,7 @@ halves before after n first free h c d stays =
       clear = clear_above 1 n (n + 1) (64 - n) (omega arith);
     }
 
--- the records behind them as `as-loaded` has them
+-- the records behind them as `as_loaded` has them
 spare_from : (n : ℕ) (is : List Instruction) → length is ≡ n → rising (n + 1) (64 - n) ≡ from (suc (length (numbered 1 is))) (64 - length (numbered 1 is))
 spare_from n is e =
     let s : n + 1 ≡ suc n = omega arith in

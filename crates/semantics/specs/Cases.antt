@@ -84,7 +84,7 @@ first_refuting m r = first (refutes m r) (cases m r)
 abbrev pub case_number : Model → Rule → ℕ
 case_number m r = m.size ^ r.variables * length (settled_codes m) ^ (freezes_in r.source + freezes_in r.target)
 
--- What `first-refuting` answers.
+-- What `first_refuting` answers.
 
 -- an element of a list
 abbrev pub Listed : {A : Type 0} → A → List A → Type 0

@@ -66,6 +66,7 @@ pub fn is_freeze(instruction: Instruction) -> bool
 }
 
 // How many choices are used up after an instruction, where `used` were before it.
+#[tactic(auto, using(crate::proofs::Stepwise::takes_one, crate::proofs::Stepwise::takes_none, crate::proofs::Stepwise::keeps_all))]
 pub fn used_after(choices: &[u16], used: usize, instruction: Instruction) -> usize
     ensures { drop result choices.now ≡ left instruction (drop used choices.now) }
 {

@@ -34,7 +34,7 @@ pub enum Operation {
     Select,
 }
 
-// A derived `==` says nothing at so many variants.
+// By hand, so that its contract says that equal operations are the same: a derived `==` says that of its own function alone.
 impl PartialEq for Operation {
     ghost eq = { on number_of ◌==◌ };
 
