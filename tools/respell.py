@@ -3,7 +3,7 @@
 
 usage: respell.py [--dry] at the top of the repository, once, after the toolchain's own scripts.
 
-An own name is one that a file of specs/ or proofs/ defines: a definition, a lemma, a field or a constructor. Names that the check makes
+An own name is one that a file of specs/ or proofs/ defines (a definition, a lemma, a field or a constructor), or that an import gives with `as`. Names that the check makes
 (goals, steps, answers) and names of libraries stay. Comments and strings stay. Functions, fields and types of src/ keep their names.
 """
 
@@ -22,7 +22,10 @@ CHOSEN = {
     "Points-1-4": "Points1To4",
     "Point-5": "Point5",
     "outcome-refines": "OutcomeRefines",
-}
+    # what the toolchain's scripts turned halfway
+    "Goes_on": "GoesOn",
+    "in_Body": "in_body",
+} | {f"getD{mark}{word}": f"get_or_{word}" for mark in "-_" for word in ("apart", "in", "listed")}
 
 # `result` is what a clause calls the value that is returned
 CHOSEN_IN = {crate: {"result": "result_of"} for crate in ("domain", "words")}
@@ -53,9 +56,13 @@ def masked(text, comment):
 def own_names():
     names, goals = set(), set()
     for path in files():
+        with open(path, encoding="utf-8") as f:
+            raw = f.read()
+        for imported in re.findall(r"\buse [\w.]+\.\{([^}]*)\}", raw):
+            names |= set(re.findall(r"\bas ([\w'-]+)", imported))
         if not path.endswith(".antt"):
             continue
-        text = masked(open(path, encoding="utf-8").read(), r"--[^\n]*")
+        text = masked(raw, r"--[^\n]*")
         for line in text.split("\n"):
             m = SIGNATURE.match(line)
             if not m or line.lstrip().startswith(("use ", "pub use", "infix", "let ", "in ", "unfolding")):

@@ -1,6 +1,6 @@
+// Programs on a bench over the house pile of width 4: what is refused at which line, the limits, and evaluations.
 #![tactic(auto)]
 
-// Programs on a bench over the house pile of width 4: what is refused at which line, the limits, and evaluations.
 #[cfg(test)]
 mod tests {
     use bench::bench::Bench;
@@ -197,7 +197,7 @@ mod tests {
             Err(fault) => {
                 assert!(rt; fault.number() == 4 && fault.line() == 66);
                 Ok(())
-            },
+            }
         }
     }
 }

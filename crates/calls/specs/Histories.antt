@@ -96,12 +96,12 @@ abbrev pub EntersExactly : Model → Type 0
 EntersExactly m = (calls : List Call) (s : ℕ) (r : Rule) → (after m calls).slots s ≡ Slot.draft r → Checks m (after m calls) s r
 
 -- one more call goes on from where the others led
-pub record Goes_on (m : Model) (calls : List Call) (c : Call) : Type 0 where
+pub record GoesOn (m : Model) (calls : List Call) (c : Call) : Type 0 where
   pub state : after m (calls ++ (c ∷ [])) ≡ next m (after m calls) c
   pub loaded : last_loaded m (calls ++ (c ∷ [])) ≡ loaded_by m c (last_loaded m calls)
 
 abbrev pub OneMore : Model → Type 0
-OneMore m = (calls : List Call) (c : Call) → Goes_on m calls c
+OneMore m = (calls : List Call) (c : Call) → GoesOn m calls c
 
 -- a call that leads from one state to another keeps what was loaded, whatever list of calls led to the first
 abbrev pub Promised : Model → State → Call → State → Type 0

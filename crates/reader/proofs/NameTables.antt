@@ -44,8 +44,8 @@ module _ (names : List (Bor Bytes)) (count : ℕ) (few : count ≤ length names)
   pub length_listed : length (listed count names) ≡ count
   length_listed = length-map (take count names) (λ n. n.now) ∙ length-take-le count names few
 
-  pub getD_listed : (i : ℕ) (d : Bor Bytes) → i < count → get_or (listed count names) i [] ≡ (get_or names i d).now
-  getD_listed i d h =
+  pub get_or_listed : (i : ℕ) (d : Bor Bytes) → i < count → get_or (listed count names) i [] ≡ (get_or names i d).now
+  get_or_listed i d h =
       get_or-map (λ (n : Bor Bytes). n.now) (take count names) i d [] (omega (arith, length-take-le count names few))
       ∙ ap (λ (n : Bor Bytes). n.now) (get_or-take count names i d h)
 

@@ -7,7 +7,7 @@ use Rattle.semantics.specs.declared.Instruction.{Instruction}
 use Rattle.text.specs.Forms.{Written as Spelt}
 use Rattle.text.specs.Faults.{Step, next, wrong, unless}
 use Rattle.text.specs.Instructions.{Names, names_of, bodies, place, instruction, instruction_fault}
-use Rattle.text.specs.ProgramTexts.{Reading as Said, in_Body, body_line, result_at, result_line}
+use Rattle.text.specs.ProgramTexts.{Reading as Said, in_body, body_line, result_at, result_line}
 use Rattle.reader.specs.declared.fault.ReadFault.{ReadFault}
 use Rattle.reader.specs.ReadFaults.{answered}
 use Rattle.reader.specs.Readings.{named_all}
@@ -69,16 +69,16 @@ module _ (m : Model) (vs ns : List Bytes) (is : List Instruction) (few : length 
   known_here = record { variables = vs; instructions = ns }
 
   abbrev said : Said
-  said = record { section = in_Body; inputs = vs; body = named_all ns is; result = result }
+  said = record { section = in_body; inputs = vs; body = named_all ns is; result = result }
 
   -- the body with one more instruction
   abbrev pub with_one : Instruction → Said
-  with_one i = record { section = in_Body; inputs = vs; body = named_all ns is ++ record { name = n; what = i } ∷ []; result = result }
+  with_one i = record { section = in_body; inputs = vs; body = named_all ns is ++ record { name = n; what = i } ∷ []; result = result }
 
   body_told : unless (instruction_fault m (leb 64 (length ns)) known_here w) (with_one (instruction m known_here w)) ≡ body_line m said w
   body_told j =
       unless (instruction_fault m (leb 64 (sym (length_named ns is few) j)) (record { variables = vs; instructions = sym (names_named ns is few) j }) w)
-      (record { section = in_Body; inputs = vs; body = named_all ns is ++ record { name = same j; what = instruction m (record { variables = vs; instructions = sym (names_named ns is few) j }) w } ∷ []; result = result })
+      (record { section = in_body; inputs = vs; body = named_all ns is ++ record { name = same j; what = instruction m (record { variables = vs; instructions = sym (names_named ns is few) j }) w } ∷ []; result = result })
 
   pub line_entered : (r : Result Instruction ReadFault) → answered r ≡ unless (instruction_fault m (leb 64 (length ns)) known_here w) (instruction m known_here w) → step_map with_one (answered r) ≡ body_line m said w
   line_entered r e = ap (step_map with_one) e ∙ unless_map with_one (instruction_fault m (leb 64 (length ns)) known_here w) (instruction m known_here w) ∙ body_told

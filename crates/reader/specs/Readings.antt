@@ -3,7 +3,7 @@ use Rattle.std.specs.Prelude.{List, [], ◌∷◌}
 use Rattle.scan.specs.Pieces.{Bytes}
 use Rattle.semantics.specs.declared.Instruction.{Instruction}
 use Rattle.text.specs.Instructions.{Named}
-use Rattle.text.specs.ProgramTexts.{Section as Place, at_start, in_Body, at_end, Reading as Said}
+use Rattle.text.specs.ProgramTexts.{Section as Place, at_start, in_body, at_end, Reading as Said}
 use Rattle.reader.specs.declared.program.Section.{Section}
 use Rattle.reader.specs.declared.program.Section.TheVariants.{Start, Body, End}
 use Rattle.reader.specs.declared.program.Reading.{Reading}
@@ -11,7 +11,7 @@ use Rattle.reader.specs.Scopes.{table}
 
 abbrev pub section_of : Section → Place
 section_of Start = at_start
-section_of Body = in_Body
+section_of Body = in_body
 section_of End = at_end
 
 -- instructions under their names, as many as there are names

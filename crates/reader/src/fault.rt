@@ -94,10 +94,10 @@ impl ReadFault {
 }
 
 // The same result, its fault with a line.
-pub fn on_line<T, F>(line: u16, res: Result<T, F>) -> Result<T, At<F>>
-    ensures { result ≡ located line res }
+pub fn on_line<T, F>(line: u16, answer: Result<T, F>) -> Result<T, At<F>>
+    ensures { result ≡ located line answer }
 {
-    match res {
+    match answer {
         Ok(value) => Ok(value),
         Err(fault) => Err(At { line, fault }),
     }

@@ -2,7 +2,7 @@
 ghost use Rattle.std.specs.Prelude.{◌≡◌, false, is_some, codes};
 ghost use Rattle.std.specs.Option.{option_map};
 ghost use Rattle.scan.specs.declared.Separators.TheVariants.{SpacesAndCommas};
-ghost use Rattle.scan.specs.Pieces.{left, words as words-by};
+ghost use Rattle.scan.specs.Pieces.{left, words as words_by};
 ghost use Rattle.text.specs.Words.{each, name as name_in};
 ghost use Rattle.text.specs.Forms.{lone, leading_marks, behind_marks, written, form, form_of, opens_rule, opens_arrow, opens_end, opens_in, opens_ret, opens_instruction};
 ghost use Rattle.text.specs.Faults.{no_word, skipped};
@@ -215,7 +215,7 @@ fn instruction_form<'a>(first: &'a [u8], mut words: Cursor<'a>) -> Option<Form<'
 
 // The form of a line, if it has one: its first word tells which.
 pub fn read_form<'a>(line: &'a [u8]) -> Option<Form<'a>>
-    ensures { Formed result (form (words-by SpacesAndCommas line.now)) }
+    ensures { Formed result (form (words_by SpacesAndCommas line.now)) }
 {
     let mut words = Cursor::new(line, Separators::SpacesAndCommas);
     let first = words.next()?;

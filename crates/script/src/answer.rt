@@ -1,7 +1,7 @@
 // What a script is told for a line.
 ghost use Rattle.std.specs.Prelude.{◌≡◌, ◌++◌, string_bytes, OnOk};
 ghost use Rattle.std.specs.Option.{option_map};
-ghost use Rattle.program.specs.View.{view as table-view};
+ghost use Rattle.program.specs.View.{view as table_view};
 ghost use Rattle.bench.specs.Faults.{layer_seen};
 ghost use Rattle.script.specs.Answers.{mark_text, written_marks_text, marks_text, outcome_text, layer_text, fault_text, computed_text};
 ghost use Rattle.script.specs.Shows.{without_rules};
@@ -105,7 +105,7 @@ pub fn write_answer(
     answer: Answer,
     program: Option<&Table>,
 ) -> Result<(), AllocError>
-    ensures { OnOk result (string_bytes out.new ≡ string_bytes out.old ++ told_text (answer_seen (without_rules (option_map (λ t. table-view t.now) program.entry)) answer)) }
+    ensures { OnOk result (string_bytes out.new ≡ string_bytes out.old ++ told_text (answer_seen (without_rules (option_map (λ t. table_view t.now) program.entry)) answer)) }
 {
     match answer {
         Answer::Bench(size) => write!(out, "bench {size}"),

@@ -2,7 +2,7 @@
 ghost use Rattle.std.specs.Prelude.{◌≡◌, ◌++◌, None, string_bytes, OnOk};
 ghost use Rattle.std.specs.Option.{option_map};
 ghost use Rattle.calls.specs.Bench.{Call};
-ghost use Rattle.program.specs.View.{view as table-view};
+ghost use Rattle.program.specs.View.{view as table_view};
 ghost use Rattle.script.specs.Lines.{order_seen, line_seen, arguments_seen};
 ghost use Rattle.script.specs.Transcripts.{view, present, answer_seen, told_text, make_bench, compute_at, call_at, show_at, obey, step_of};
 
@@ -61,7 +61,7 @@ impl Interpreter {
         )
     }
 
-    // A bench inside an option cannot be lent for writing: it is taken out and put back.
+    // The bench is taken out, and put back with what the text left in it.
     fn load(&mut self, number: u64, text: &[u8]) -> Answer
         ensures value { answer_seen (present (view self.new)) result ≡ (call_at (view self.old) number (Call.load text.now)).answer }
         ensures after { view self.new ≡ (call_at (view self.old) number (Call.load text.now)).after }
@@ -127,7 +127,7 @@ impl Interpreter {
 
     // The present program, if one was loaded.
     fn program(&self) -> Option<&Table>
-        ensures { option_map (λ t. table-view t.now) result ≡ (present (view self.now)).loaded }
+        ensures { option_map (λ t. table_view t.now) result ≡ (present (view self.now)).loaded }
     {
         match &self.bench {
             Some(bench) => bench.program(),

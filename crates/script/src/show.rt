@@ -1,7 +1,7 @@
 // The present program and the book, as `show` prints them.
 ghost use Rattle.std.specs.Prelude.{◌≡◌, ◌++◌, string_bytes, OnOk};
 ghost use Rattle.std.specs.Option.{option_map};
-ghost use Rattle.semantics.specs.Programs.{records as records-of};
+ghost use Rattle.semantics.specs.Programs.{records as records_of};
 ghost use Rattle.program.specs.View.{view};
 ghost use Rattle.program.specs.Windows.{shown};
 ghost use Rattle.script.specs.Answers.{numbers_text};
@@ -63,7 +63,7 @@ fn write_body(out: &mut String, mut window: Window) -> Result<(), AllocError>
 }
 
 fn write_records(out: &mut String, mut window: Window) -> Result<(), AllocError>
-    ensures { OnOk result (string_bytes out.new ≡ string_bytes out.old ++ numbers_text (records-of (shown window.entry))) }
+    ensures { OnOk result (string_bytes out.new ≡ string_bytes out.old ++ numbers_text (records_of (shown window.entry))) }
 {
     while let Some((at, _)) = window.next() {
         write!(out, " {at}")?;

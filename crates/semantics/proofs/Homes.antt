@@ -12,18 +12,18 @@ use Rattle.semantics.proofs.Members.{same_test, into_more, other_test, same?, In
 use Rattle.semantics.proofs.Order.{next_apart}
 use Rattle.semantics.proofs.Operands.{readable_more}
 
-getD_in : (xs : List ℕ) (a : ℕ) → a < length xs → In (get_or xs a 0) xs
-getD_in [] a h = absurd (omega arith)
-getD_in (x ∷ xs) zero h = in_first x xs
-getD_in (x ∷ xs) (suc a) h = in_there (get_or xs a 0) x xs (getD_in xs a (omega arith))
+get_or_in : (xs : List ℕ) (a : ℕ) → a < length xs → In (get_or xs a 0) xs
+get_or_in [] a h = absurd (omega arith)
+get_or_in (x ∷ xs) zero h = in_first x xs
+get_or_in (x ∷ xs) (suc a) h = in_there (get_or xs a 0) x xs (get_or_in xs a (omega arith))
 
 -- the places of a list without repetition are told by what stands there
-getD_apart : (xs : List ℕ) → Distinct xs → (a b : ℕ) → a < length xs → b < length xs → get_or xs a 0 ≡ get_or xs b 0 → a ≡ b
-getD_apart [] d a b h k e = absurd (omega arith)
-getD_apart (x ∷ xs) d zero zero h k e = refl
-getD_apart (x ∷ xs) d zero (suc b) h k e = absurd (unlike x xs d.0 (get_or xs b 0) (getD_in xs b (omega arith)) (sym e))
-getD_apart (x ∷ xs) d (suc a) zero h k e = absurd (unlike x xs d.0 (get_or xs a 0) (getD_in xs a (omega arith)) e)
-getD_apart (x ∷ xs) d (suc a) (suc b) h k e = ap suc (getD_apart xs d.1 a b (omega arith) (omega arith) e)
+get_or_apart : (xs : List ℕ) → Distinct xs → (a b : ℕ) → a < length xs → b < length xs → get_or xs a 0 ≡ get_or xs b 0 → a ≡ b
+get_or_apart [] d a b h k e = absurd (omega arith)
+get_or_apart (x ∷ xs) d zero zero h k e = refl
+get_or_apart (x ∷ xs) d zero (suc b) h k e = absurd (unlike x xs d.0 (get_or xs b 0) (get_or_in xs b (omega arith)) (sym e))
+get_or_apart (x ∷ xs) d (suc a) zero h k e = absurd (unlike x xs d.0 (get_or xs a 0) (get_or_in xs a (omega arith)) e)
+get_or_apart (x ∷ xs) d (suc a) (suc b) h k e = ap suc (get_or_apart xs d.1 a b (omega arith) (omega arith) e)
 
 -- the j-th of n
 pub record Within (n j : ℕ) : Type 0 where
@@ -52,21 +52,21 @@ module _ (fresh : List ℕ) (at n : ℕ) (enough : suc (length fresh) ≡ n) whe
 
   -- an instruction of the target takes the place of the match or a new record
   pub home_cases : (j : ℕ) → Within n j → (home fresh at n j ≡ at) ⊎ In (home fresh at n j) fresh
-  home_cases j b = ⊎_elim (λ e. inl (home_last j e)) (λ e. inr (subst⁻¹ (λ z. In z fresh) (home_new j e) (getD_in fresh (j - 1) (omega arith)))) (same? j n)
+  home_cases j b = ⊎_elim (λ e. inl (home_last j e)) (λ e. inr (subst⁻¹ (λ z. In z fresh) (home_new j e) (get_or_in fresh (j - 1) (omega arith)))) (same? j n)
 
   -- no two share a record
   pub home_apart : Distinct fresh → (In at fresh → ⊥) → (j k : ℕ) → Within n j → Within n k → home fresh at n j ≡ home fresh at n k → j ≡ k
   home_apart d old j k b c e = go (same? j n) (same? k n)
     where
       new : (j : ℕ) → Within n j → (j ≡ n → ⊥) → at ≡ home fresh at n j → ⊥
-      new j b other same = old (subst⁻¹ (λ z. In z fresh) (same ∙ home_new j other) (getD_in fresh (j - 1) (omega arith)))
+      new j b other same = old (subst⁻¹ (λ z. In z fresh) (same ∙ home_new j other) (get_or_in fresh (j - 1) (omega arith)))
 
       go : (j ≡ n) ⊎ (j ≡ n → ⊥) → (k ≡ n) ⊎ (k ≡ n → ⊥) → j ≡ k
       go (inl x) (inl y) = x ∙ sym y
       go (inl x) (inr y) = absurd (new k c y (sym (home_last j x) ∙ e))
       go (inr x) (inl y) = absurd (new j b x (sym (home_last k y) ∙ sym e))
       go (inr x) (inr y) =
-          let places = getD_apart fresh d (j - 1) (k - 1) (omega arith) (omega arith) (sym (home_new j x) ∙ e ∙ home_new k y) in
+          let places = get_or_apart fresh d (j - 1) (k - 1) (omega arith) (omega arith) (sym (home_new j x) ∙ e ∙ home_new k y) in
           omega arith
 
 module _ (w : Match) (h : ℕ → ℕ) where

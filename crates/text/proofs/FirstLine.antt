@@ -103,12 +103,12 @@ rules_first_line m = read_first (R.rule_step m) (R.rule_end m) (λ s. s.section 
 -- where a text of a program may not end
 program_early : (x : P.Section) (s : P.Reading) (n : ℕ) → (x ≡ P.at_end → ⊥) → P.ended x s n ≡ refused (fault 2 n)
 program_early P.at_start s n h = refl
-program_early P.in_Body s n h = refl
+program_early P.in_body s n h = refl
 program_early P.at_end s n h = absurd (h refl)
 
 program_only : (x : P.Section) (s : P.Reading) (n k j : ℕ) → P.ended x s n ≡ refused (fault k j) → (x ≡ P.at_end → ⊥) × (k ≡ 2) × (j ≡ n)
 program_only P.at_start s n k j e = let (a, b) = two n k j e in (λ q. let z : ◌≡◌ {A = ℕ} 0 1 = cc in omega arith, a, b)
-program_only P.in_Body s n k j e = let (a, b) = two n k j e in (λ q. let z : ◌≡◌ {A = ℕ} 0 1 = cc in omega arith, a, b)
+program_only P.in_body s n k j e = let (a, b) = two n k j e in (λ q. let z : ◌≡◌ {A = ℕ} 0 1 = cc in omega arith, a, b)
 program_only P.at_end s n k j e = let z : ◌≡◌ {A = ℕ} 0 1 = cc in absurd (omega arith)
 
 pub programs_first_line : (m : Model) → ProgramsFirstLine m

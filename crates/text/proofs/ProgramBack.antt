@@ -18,7 +18,7 @@ use Rattle.text.specs.Words.{and_then}
 use Rattle.text.specs.Forms.{in_line, ret_line}
 use Rattle.text.specs.Faults.{Read, accepted, Step, next, first_of, unless, formed_line, line_step, walk, sized}
 use Rattle.text.specs.Instructions.{Named, Names, names_of, place, instruction, instruction_fault}
-use Rattle.text.specs.ProgramTexts.{Reading, in_Body, at_end, twice, result_at, program_step, program_of, program_end, nothing_read, read_program}
+use Rattle.text.specs.ProgramTexts.{Reading, in_body, at_end, twice, result_at, program_step, program_of, program_end, nothing_read, read_program}
 use Rattle.text.specs.Neat.{Neat}
 use Rattle.text.specs.Writing.{spaced, text_of, input_name, record_name, behind_name, instruction_words, lines_of, in_words, ret_words, ProgramsReadBack}
 use Rattle.text.proofs.Fine.{Okay, Fine}
@@ -34,7 +34,7 @@ module _ (m : Model) (law : Lawful m) (n : ℕ) (few : n ≤ 8) where
 
   -- after `in` and some instructions
   abbrev after_lines : List Instruction → Reading
-  after_lines is = record { section = in_Body; inputs = ins; body = label record_name 1 is; result = 0 }
+  after_lines is = record { section = in_body; inputs = ins; body = label record_name 1 is; result = 0 }
 
   good_in : All Good (in_words n)
   good_in = (record { some = omega arith; short = omega arith; solid_bytes = refl }, good_inputs 0 n (omega arith))
@@ -56,7 +56,7 @@ module _ (m : Model) (law : Lawful m) (n : ℕ) (few : n ≤ 8) where
       let small = small_operands record_name 64 record_naming m law n k few room (reads i) okay in
       let names : List Bytes → Names = λ rs. record { variables = ins; instructions = rs } in
       let body : Instruction → List Named = λ x. label record_name 1 done ++ record { name = record_name (suc k); what = x } ∷ [] in
-      let state : List Named → Reading = λ xs. record { section = in_Body; inputs = ins; body = xs; result = 0 } in
+      let state : List Named → Reading = λ xs. record { section = in_body; inputs = ins; body = xs; result = 0 } in
       let step : List Bytes → Bool → Step Reading = λ rs b. unless (instruction_fault m b (names rs) w) (state (body (instruction m (names rs) w))) in
       let full : leb 64 (length (label record_name 1 done)) ≡ false = ap (leb 64) (length_label record_name 1 done) ∙ lt-leb 64 k room in
       let pushed : body i ≡ label record_name 1 (done ++ i ∷ []) = ap (λ j. label record_name 1 done ++ record { name = record_name j; what = i } ∷ []) (let e : suc k ≡ 1 + k = omega arith in e) ∙ sym (label_push record_name 1 done i) in

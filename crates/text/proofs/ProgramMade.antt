@@ -11,7 +11,7 @@ use Rattle.scan.specs.Pieces.{Bytes}
 use Rattle.text.specs.Forms.{Form, Written, form, rule_line, arrow_line, end_line, in_line, ret_line, instruction_line}
 use Rattle.text.specs.Faults.{next, accepted, first_of}
 use Rattle.text.specs.Instructions.{Named, names_of, bodies, place, instruction_fault}
-use Rattle.text.specs.ProgramTexts.{Section, at_start, in_Body, at_end, Reading, twice, inputs_line, body_names, body_line, result_at, result_line, in_order, program_step, program_of, ended, program_end, nothing_read, read_program}
+use Rattle.text.specs.ProgramTexts.{Section, at_start, in_body, at_end, Reading, twice, inputs_line, body_names, body_line, result_at, result_line, in_order, program_step, program_of, ended, program_end, nothing_read, read_program}
 use Rattle.text.specs.Neat.{Neat}
 use Rattle.text.specs.Accepted.{ProgramSaid}
 use Rattle.text.proofs.Neatness.{neat_entered}
@@ -32,7 +32,7 @@ pub record Sound (m : Model) (inputs : List Bytes) (body : List Named) : Type 0 
 -- before `in` nothing is read, and after `ret` the result is an instruction
 abbrev Closed : Section → List Named → ℕ → Type 0
 Closed at_start body result = length body ≡ 0
-Closed in_Body body result = Unit {0}
+Closed in_body body result = Unit {0}
 Closed at_end body result = (1 ≤ result) × (result ≤ length body)
 
 abbrev Kept : Model → Reading → Type 0
@@ -98,12 +98,12 @@ module _ (m : Model) where
   keeps_in at_start s ws (in_line ns) t q k c e = keeps_inputs s t ns c e
   keeps_in at_start s ws (ret_line n) t q k c e = no_line e
   keeps_in at_start s ws (instruction_line w) t q k c e = no_line e
-  keeps_in in_Body s ws rule_line t q k c e = no_line e
-  keeps_in in_Body s ws arrow_line t q k c e = no_line e
-  keeps_in in_Body s ws end_line t q k c e = no_line e
-  keeps_in in_Body s ws (in_line ns) t q k c e = no_line e
-  keeps_in in_Body s ws (ret_line n) t q k c e = keeps_result s t n s.body refl k e
-  keeps_in in_Body s ws (instruction_line w) t q k c e = keeps_body s t w (counted ws w q) k e
+  keeps_in in_body s ws rule_line t q k c e = no_line e
+  keeps_in in_body s ws arrow_line t q k c e = no_line e
+  keeps_in in_body s ws end_line t q k c e = no_line e
+  keeps_in in_body s ws (in_line ns) t q k c e = no_line e
+  keeps_in in_body s ws (ret_line n) t q k c e = keeps_result s t n s.body refl k e
+  keeps_in in_body s ws (instruction_line w) t q k c e = keeps_body s t w (counted ws w q) k e
   keeps_in at_end s ws rule_line t q k c e = no_line e
   keeps_in at_end s ws arrow_line t q k c e = no_line e
   keeps_in at_end s ws end_line t q k c e = no_line e
@@ -113,7 +113,7 @@ module _ (m : Model) where
 
   made_at : (x : Section) (s : Reading) (n : ℕ) (p : Program) → Sound m s.inputs s.body → Closed x s.body s.result → ended x s n ≡ accepted p → ProgramSaid m p
   made_at at_start s n p k c e = let z : ◌≡◌ {A = ℕ} 0 1 = cc in absurd (omega arith)
-  made_at in_Body s n p k c e = let z : ◌≡◌ {A = ℕ} 0 1 = cc in absurd (omega arith)
+  made_at in_body s n p k c e = let z : ◌≡◌ {A = ℕ} 0 1 = cc in absurd (omega arith)
   made_at at_end s n p k c e =
       let is = bodies s.body in
       let len : length is ≡ length s.body = length-map s.body (λ x. x.what) in

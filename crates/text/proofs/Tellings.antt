@@ -84,7 +84,7 @@ rules_told m text f e = read_told (R.rule_step m) (R.rule_end m) 9 (omega arith)
 
 program_after : (x : P.Section) (s : P.Reading) (n : ℕ) (f : Fault) → P.ended x s n ≡ refused f → AtEnd 7 n f
 program_after P.at_start s n f e = early 7 n f (omega arith) e
-program_after P.in_Body s n f e = early 7 n f (omega arith) e
+program_after P.in_body s n f e = early 7 n f (omega arith) e
 program_after P.at_end s n f e = let z : ◌≡◌ {A = ℕ} 0 1 = cc in absurd (omega arith)
 
 pub programs_told : (m : Model) → ProgramsTold m

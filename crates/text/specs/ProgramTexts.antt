@@ -10,7 +10,7 @@ use Rattle.text.specs.Instructions.{Named, Names, names_of, bodies, place, among
 
 -- where in the text a line stands
 pub data Section : Type 0 where
-  at_start in_Body at_end : Section
+  at_start in_body at_end : Section
 
 -- what the lines so far say
 pub record Reading : Type 0 where
@@ -28,7 +28,7 @@ abbrev pub inputs_fault : List Bytes → Option ℕ
 inputs_fault ns = first_of (nat_lt 8 (length ns)) 4 (first_of (twice ns) 5 None)
 
 abbrev pub inputs_line : Reading → List Bytes → Step Reading
-inputs_line s ns = unless (inputs_fault ns) (record { section = in_Body; inputs = ns; body = s.body; result = s.result })
+inputs_line s ns = unless (inputs_fault ns) (record { section = in_body; inputs = ns; body = s.body; result = s.result })
 
 -- an instruction reads inputs, constants and earlier instructions
 abbrev pub body_names : Reading → Names
@@ -41,7 +41,7 @@ body_too_many s = nat_le 64 (length s.body)
 abbrev pub body_line : Model → Reading → Written → Step Reading
 body_line m s w =
     unless (instruction_fault m (body_too_many s) (body_names s) w) (record {
-      section = in_Body;
+      section = in_body;
       inputs = s.inputs;
       body = entered m (body_names s) w s.body;
       result = s.result;
@@ -65,12 +65,12 @@ in_order m at_start s end_line = wrong 2
 in_order m at_start s (in_line ns) = inputs_line s ns
 in_order m at_start s (ret_line n) = wrong 2
 in_order m at_start s (instruction_line w) = wrong 2
-in_order m in_Body s rule_line = wrong 2
-in_order m in_Body s arrow_line = wrong 2
-in_order m in_Body s end_line = wrong 2
-in_order m in_Body s (in_line ns) = wrong 2
-in_order m in_Body s (ret_line n) = result_line s.body s n
-in_order m in_Body s (instruction_line w) = body_line m s w
+in_order m in_body s rule_line = wrong 2
+in_order m in_body s arrow_line = wrong 2
+in_order m in_body s end_line = wrong 2
+in_order m in_body s (in_line ns) = wrong 2
+in_order m in_body s (ret_line n) = result_line s.body s n
+in_order m in_body s (instruction_line w) = body_line m s w
 in_order m at_end s rule_line = wrong 2
 in_order m at_end s arrow_line = wrong 2
 in_order m at_end s end_line = wrong 2
@@ -88,7 +88,7 @@ program_of s = record { inputs = length s.inputs; body = numbered 1 (bodies s.bo
 -- a text that ends before `ret` is fault 2 at the line after the last
 abbrev pub ended : Section → Reading → ℕ → Read Program
 ended at_start s n = refused (fault 2 n)
-ended in_Body s n = refused (fault 2 n)
+ended in_body s n = refused (fault 2 n)
 ended at_end s n = accepted (program_of s)
 
 abbrev pub program_end : Reading → ℕ → Read Program

@@ -34,7 +34,7 @@ pub enum Operation {
     Select,
 }
 
-// By hand, so that its contract says that equal operations are the same: a derived `==` says that of its own function alone.
+// By hand, so that the contract of `==` says that it holds of one operation and itself alone.
 impl PartialEq for Operation {
     ghost eq = { on number_of ◌==◌ };
 

@@ -1,6 +1,6 @@
 // The steps of rewriting.
 ghost use Rattle.std.specs.Prelude.{◌≡◌, ◌≤◌, T, length};
-ghost use Rattle.semantics.specs.Programs.{has, head, records as records-of};
+ghost use Rattle.semantics.specs.Programs.{has, head, records as records_of};
 ghost use Rattle.program.specs.Steps.{released, entered, replaced};
 ghost use Rattle.program.specs.View.{view};
 
@@ -11,7 +11,7 @@ use semantics::Instruction;
 impl Table {
     // Frees record `at`: it is the first to be taken again. The caller owes a record of the program.
     pub fn release(&mut self, at: u8)
-        requires { T (has at (records-of (view self.old).program.body)) }
+        requires { T (has at (records_of (view self.old).program.body)) }
         ensures { view self.new ≡ released at (view self.old) }
     {
         let first = self.first;

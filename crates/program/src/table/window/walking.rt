@@ -1,7 +1,7 @@
 // What a table shows of itself, in chain order.
 ghost use Rattle.std.specs.Prelude.{◌≡◌, length};
 ghost use Rattle.std.specs.Option.{option_map};
-ghost use Rattle.semantics.specs.Programs.{records as records-of};
+ghost use Rattle.semantics.specs.Programs.{records as records_of};
 ghost use Rattle.program.specs.View.{view};
 ghost use Rattle.program.specs.Windows.{shown, in_its_record, first_of, others_of};
 
@@ -50,7 +50,7 @@ impl Table {
 
     // The free records, the first to be taken first; what stands in them is no part of the program.
     pub fn free_window(&self) -> Window<'_>
-        ensures { records-of (shown result) ≡ (view self.now).free }
+        ensures { records_of (shown result) ≡ (view self.now).free }
     {
         Window {
             records: &self.records,

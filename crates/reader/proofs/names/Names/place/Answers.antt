@@ -2,7 +2,7 @@ use Rattle.std.proofs.Common.{◌≤◌, length, sym, ap, ◌∙◌, arith}
 use Rattle.vocabulary.specs.Names.{same_word}
 use Rattle.text.specs.Instructions.{place}
 use Rattle.reader.specs.NameTables.{listed}
-use Rattle.reader.proofs.NameTables.{from_start, place_onward, place_here, place_nowhere, length_listed, getD_listed}
+use Rattle.reader.proofs.NameTables.{from_start, place_onward, place_here, place_nowhere, length_listed, get_or_listed}
 use Rattle.reader.proofs.names.Names.place.Goals as goal
 
 pub loop-i-init : goal.loop-i-init
@@ -16,7 +16,7 @@ loop-i-preserved c =
     let few : t.count ≤ length t.names = omega (arith, t.long, t.few) in
     place_onward c.args.name.now (listed t.count t.names) c.loop-i.i c.loop-i.invariant
     (omega (arith, length_listed t.names t.count few))
-    (ap (same_word c.args.name.now) (getD_listed t.names t.count few c.loop-i.i _ c.loop-i-test.true) ∙ sym c.is_word.ensures ∙ c.if-is_word.false)
+    (ap (same_word c.args.name.now) (get_or_listed t.names t.count few c.loop-i.i _ c.loop-i-test.true) ∙ sym c.is_word.ensures ∙ c.if-is_word.false)
 
 pub returns-then-is_word : goal.returns-then-is_word
 returns-then-is_word c =
@@ -27,7 +27,7 @@ returns-then-is_word c =
           sym
           (place_here c.args.name.now (listed t.count t.names) c.loop-i.i c.loop-i.invariant
           (omega (arith, length_listed t.names t.count few))
-          (ap (same_word c.args.name.now) (getD_listed t.names t.count few c.loop-i.i _ c.loop-i-test.true) ∙ sym c.is_word.ensures ∙ c.if-is_word.true));
+          (ap (same_word c.args.name.now) (get_or_listed t.names t.count few c.loop-i.i _ c.loop-i-test.true) ∙ sym c.is_word.ensures ∙ c.if-is_word.true));
       bound = c.loop-i-test.true;
     }
 

@@ -1,6 +1,6 @@
 use Rattle.std.proofs.Common.{◌≡◌, ltb, length, Err, sym, ap, ◌∙◌, rules}
 use Rattle.scan.specs.Pieces.{left}
-use Rattle.text.specs.ProgramTexts.{in_Body, twice}
+use Rattle.text.specs.ProgramTexts.{in_body, twice}
 use Rattle.reader.specs.declared.fault.ReadFault.TheVariants.{Text}
 use Rattle.reader.specs.ReadFaults.{left_at}
 use Rattle.reader.specs.Scopes.{table}
@@ -29,7 +29,7 @@ returns c =
     let was = located_ok c.args.line c.read_inputs.result _ (sym c.on_line.ensures ∙ c.in_ok-on_line.was) in
     record {
       value = λ ns e.
-          inputs_taken (ltb 8 (length ns)) (twice ns) ns (table c.read_inputs.new.names) (λ xs. record { section = in_Body; inputs = xs; body = named_all (table r.scope.instructions) r.body; result = r.result })
+          inputs_taken (ltb 8 (length ns)) (twice ns) ns (table c.read_inputs.new.names) (λ xs. record { section = in_body; inputs = xs; body = named_all (table r.scope.instructions) r.body; result = r.result })
           (ap (tabled (table c.read_inputs.new.names)) (sym was) ∙ inputs_ruled (left c.args.words) (table c.new-self.result) _ c.read_inputs.ensures c.new-self.ensures ns e);
       line = tt;
     }
