@@ -4,7 +4,8 @@ use mathlib.Core.Path.{subst⁻¹}
 use Rattle.domain.specs.Model.{Model}
 use Rattle.semantics.specs.Programs.{Placed, Program, Formed, All, all, reads, has}
 use Rattle.semantics.specs.Rules.{Rule, numbered, Match, Agree, Agrees, Matched, Stands, matches, removed, reads_one, any_reads, Fits}
-use Rattle.semantics.specs.Fitting.{Pairwise, Named, Takes, Holds, Like, Taking, Points1To2, Points3To4, Point5, look, pairwise, named, takes, passes, like, taking, all_below, distinct, passes_1_2, passes_3_4, passes_5, number}
+use Rattle.semantics.specs.Fitting.{Pairwise, Named, Takes, Holds, Like, Taking, Points1To2, Points3To4, Point5, look, pairwise, named, takes, passes, like, taking, all_below, distinct, passes_1_2, passes_3_4, passes_5}
+use Rattle.vocabulary.specs.Names.{number_of}
 use Rattle.semantics.specs.declared.Operand.{Operand}
 use Rattle.semantics.specs.declared.Operand.TheVariants.{Input, Record, Constant}
 use Rattle.semantics.specs.declared.Instruction.{Instruction}
@@ -39,14 +40,14 @@ holds_takes w (Constant c) o t = tt
 -- one instruction against another
 like_holds : (w : Match) (s i : Instruction) → T (like w s i) → Like w s i
 like_holds w s i t =
-    let (a, b) = both (eqb (number i.operation) (number s.operation)) (eqb i.marks.bits s.marks.bits && pairwise (named w) (reads s) (reads i)) t in
+    let (a, b) = both (eqb (number_of i.operation) (number_of s.operation)) (eqb i.marks.bits s.marks.bits && pairwise (named w) (reads s) (reads i)) t in
     let (c, d) = both (eqb i.marks.bits s.marks.bits) (pairwise (named w) (reads s) (reads i)) b in
     (same_operation_holds _ _ a, ap (λ n. record { bits = n }) (eqb→eq i.marks.bits s.marks.bits c), pairwise_holds (named w) (Named w) (named_holds w) (reads s) (reads i) d)
 
 -- and the other way round
 holds_like : (w : Match) (s i : Instruction) → Like w s i → T (like w s i)
 holds_like w s i (a, b, c) =
-    and_both (eqb (number i.operation) (number s.operation)) _ (holds_same_operation _ _ a)
+    and_both (eqb (number_of i.operation) (number_of s.operation)) _ (holds_same_operation _ _ a)
     (and_both (eqb i.marks.bits s.marks.bits) _ (same_eqb i.marks.bits s.marks.bits (ap (λ k. k.bits) b)) (holds_pairwise (named w) (Named w) (holds_named w) (reads s) (reads i) c))
 
 -- its variables

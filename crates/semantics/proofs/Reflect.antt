@@ -4,7 +4,8 @@ use mathlib.Core.Path.{subst⁻¹}
 use lib.Dec.{eqb_refl}
 use Rattle.semantics.specs.Programs.{All, all, has}
 use Rattle.semantics.specs.Rules.{Distinct}
-use Rattle.semantics.specs.Fitting.{Pairwise, pairwise, same_operand, number, all_below, distinct}
+use Rattle.semantics.specs.Fitting.{Pairwise, pairwise, same_operand, all_below, distinct}
+use Rattle.vocabulary.specs.Names.{operations, number_of}
 use Rattle.vocabulary.specs.declared.operation.Operation.{Operation}
 use Rattle.vocabulary.specs.declared.operation.Operation.TheVariants.{Add, Sub, Mul, Shl, Lshr, Ashr, Udiv, Urem, Sdiv, Srem, And, Or, Xor, Eq, Ne, Ult, Ule, Slt, Sle, Copy, Freeze, Select}
 use Rattle.semantics.specs.declared.Operand.{Operand}
@@ -81,13 +82,8 @@ operand_itself (Constant a) = eqb_refl a
 pub holds_same_operand : (a b : Operand) → a ≡ b → T (same_operand a b)
 holds_same_operand a b e = subst (λ z. T (same_operand a z)) e (operand_itself a)
 
--- operations are told by their numbers
-operations : List Operation
-operations = Add ∷ Sub ∷ Mul ∷ Shl ∷ Lshr ∷ Ashr ∷ Udiv ∷ Urem ∷ Sdiv ∷ Srem ∷ And ∷ Or ∷ Xor ∷ Eq ∷ Ne ∷ Ult ∷ Ule ∷ Slt ∷ Sle ∷ Copy ∷ Freeze ∷ Select ∷ []
-
--- the operation of a number
-numbered_back : (o : Operation) → get_or operations (number o) Add ≡ o
-unfolding operations
+-- operations are told by their numbers: at the number of one stands that one
+numbered_back : (o : Operation) → get_or operations (number_of o) Add ≡ o
 numbered_back Add = refl
 numbered_back Sub = refl
 numbered_back Mul = refl
@@ -112,12 +108,12 @@ numbered_back Freeze = refl
 numbered_back Select = refl
 
 -- operations with the same number are equal
-pub same_operation_holds : (a b : Operation) → T (eqb (number a) (number b)) → a ≡ b
-same_operation_holds a b t = sym (numbered_back a) ∙ ap (λ n. get_or operations n Add) (eqb→eq (number a) (number b) t) ∙ numbered_back b
+pub same_operation_holds : (a b : Operation) → T (eqb (number_of a) (number_of b)) → a ≡ b
+same_operation_holds a b t = sym (numbered_back a) ∙ ap (λ n. get_or operations n Add) (eqb→eq (number_of a) (number_of b) t) ∙ numbered_back b
 
 -- equal operations have the same number
-pub holds_same_operation : (a b : Operation) → a ≡ b → T (eqb (number a) (number b))
-holds_same_operation a b e = same_eqb (number a) (number b) (ap number e)
+pub holds_same_operation : (a b : Operation) → a ≡ b → T (eqb (number_of a) (number_of b))
+holds_same_operation a b e = same_eqb (number_of a) (number_of b) (ap number_of e)
 
 -- a test of two lists of operands, one by one
 module _ (t : Operand → Operand → Bool) (P : Operand → Operand → Type 0) where

@@ -3,8 +3,7 @@ use Rattle.std.specs.Prelude.{◌≡◌, ℕ, zero, suc, ◌<◌, ◌≤◌, Boo
 use Rattle.domain.specs.Model.{Model}
 use Rattle.semantics.specs.Programs.{Placed, Program, Formed, All, all, put, reads, has}
 use Rattle.semantics.specs.Rules.{Rule, WellMade, numbered, Match, Stands, Distinct, matches, removed, reads_one, any_reads, Fits}
-use Rattle.vocabulary.specs.declared.operation.Operation.{Operation}
-use Rattle.vocabulary.specs.declared.operation.Operation.TheVariants.{Add, Sub, Mul, Shl, Lshr, Ashr, Udiv, Urem, Sdiv, Srem, And, Or, Xor, Eq, Ne, Ult, Ule, Slt, Sle, Copy, Freeze, Select}
+use Rattle.vocabulary.specs.Names.{number_of}
 use Rattle.semantics.specs.declared.Operand.{Operand}
 use Rattle.semantics.specs.declared.Operand.TheVariants.{Input, Record, Constant}
 use Rattle.semantics.specs.declared.Instruction.{Instruction}
@@ -89,30 +88,6 @@ candidate p r at = walk p.body (numbered 1 r.source) (record { record_of = put (
 
 -- The points as tests.
 
-abbrev pub number : Operation → ℕ
-number Add = 0
-number Sub = 1
-number Mul = 2
-number Shl = 3
-number Lshr = 4
-number Ashr = 5
-number Udiv = 6
-number Urem = 7
-number Sdiv = 8
-number Srem = 9
-number And = 10
-number Or = 11
-number Xor = 12
-number Eq = 13
-number Ne = 14
-number Ult = 15
-number Ule = 16
-number Slt = 17
-number Sle = 18
-number Copy = 19
-number Freeze = 20
-number Select = 21
-
 abbrev pub same_operand : Operand → Operand → Bool
 same_operand (Input a) (Input b) = a == b
 same_operand (Input a) (Record b) = false
@@ -145,7 +120,7 @@ passes t None = false
 passes t (Some i) = t i
 
 abbrev pub like : Match → Instruction → Instruction → Bool
-like w s i = number i.operation == number s.operation && (i.marks.bits == s.marks.bits && pairwise (named w) (reads s) (reads i))
+like w s i = number_of i.operation == number_of s.operation && (i.marks.bits == s.marks.bits && pairwise (named w) (reads s) (reads i))
 
 abbrev pub taking : Match → Instruction → Instruction → Bool
 taking w s i = pairwise (takes w) (reads s) (reads i)
