@@ -1,7 +1,6 @@
 -- What calls answer where a program is loaded.
 use Rattle.std.proofs.Common.{◌≡◌, ℕ, List, Some, None, Option, refl, ap, ◌∙◌}
-use Rattle.domain.specs.declared.Outcome.{Outcome}
-use Rattle.domain.specs.Model.{Model, Lawful}
+use Rattle.domain.specs.Model.{Model, Lawful, Outcome}
 use Rattle.semantics.specs.Programs.{Evaluated, evaluated, unevaluated, evaluation}
 use Rattle.semantics.specs.Changes.{Loaded}
 use Rattle.calls.specs.Bench.{State, Call, Answer, evaluate_answer, evaluate_loaded}

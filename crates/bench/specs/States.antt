@@ -1,12 +1,12 @@
 -- A bench by the state that calls are defined on, and its answers as theirs. Assumes nothing.
 use Rattle.std.specs.Prelude.{cond, [], Some, None, Ok, Err, Result}
-use Rattle.domain.specs.declared.Outcome.{Outcome}
 use Rattle.semantics.specs.Cases.{from}
 use Rattle.program.specs.View.{view}
 use Rattle.calls.specs.Bench.{State, empty, Answer}
 use Rattle.bench.specs.declared.bench.Bench.{Bench}
 use Rattle.bench.specs.declared.fault.BenchFault.{BenchFault}
 use Rattle.bench.specs.Faults.{bench_fault}
+use Rattle.domain.specs.Model.{Outcome}
 
 -- no rule is drafted or entered
 abbrev pub state : {D : Type 0} → Bench D → State

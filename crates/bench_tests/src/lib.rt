@@ -5,7 +5,7 @@
 mod tests {
     use bench::bench::Bench;
     use bench::fault::BenchFault;
-    use domain::Outcome;
+    use domain::{Outcome, Trapped};
     use layers::poison::Poison;
     use std::alloc::{AllocError, Global};
     use std::process::Abort;
@@ -131,18 +131,18 @@ mod tests {
     #[test]
     fn traps_poison_and_freezes(rt: HostRuntime) -> Result<(), Fail> {
         let division = b"in %x\n%q = udiv 1, %x\n%r = copy 3\nret %r\n";
-        evaluates(&rt, division, &[0], &[], Outcome::Trap)?;
-        evaluates(&rt, division, &[16], &[], Outcome::Trap)?;
-        evaluates(&rt, division, &[5], &[], Outcome::Code(3))?;
+        evaluates(&rt, division, &[0], &[], Err(Trapped))?;
+        evaluates(&rt, division, &[16], &[], Err(Trapped))?;
+        evaluates(&rt, division, &[5], &[], Ok(3))?;
         let sum = b"in %x\n%r = add nsw %x, 1\nret %r\n";
-        evaluates(&rt, sum, &[7], &[], Outcome::Code(16))?;
-        evaluates(&rt, sum, &[6], &[], Outcome::Code(7))?;
+        evaluates(&rt, sum, &[7], &[], Ok(16))?;
+        evaluates(&rt, sum, &[6], &[], Ok(7))?;
         let freezes = b"in %x\n%a = freeze 3\n%b = freeze %x\n%r = sub %b, %a\nret %r\n";
-        evaluates(&rt, freezes, &[16], &[9, 5], Outcome::Code(2))?;
-        evaluates(&rt, freezes, &[4], &[9, 5], Outcome::Code(1))?;
+        evaluates(&rt, freezes, &[16], &[9, 5], Ok(2))?;
+        evaluates(&rt, freezes, &[4], &[9, 5], Ok(1))?;
         let choice = b"in %x\n%r = select %x, 3, 4\nret %r\n";
-        evaluates(&rt, choice, &[16], &[], Outcome::Code(16))?;
-        evaluates(&rt, choice, &[0], &[], Outcome::Code(4))
+        evaluates(&rt, choice, &[16], &[], Ok(16))?;
+        evaluates(&rt, choice, &[0], &[], Ok(4))
     }
 
     fn fault_number(answer: Result<Outcome, BenchFault>) -> u8 {
@@ -190,7 +190,7 @@ mod tests {
         let mut bench = house()?;
         bench.load(full.as_bytes())?;
         let outcome = bench.evaluate(&[1, 2, 0, 0, 0, 0, 0, 3], &[])?;
-        assert_eq!(rt; outcome, Outcome::Code(0));
+        assert_eq!(rt; outcome, Ok(0));
         let over = sums(heap, 65)?;
         match bench.load(over.as_bytes()) {
             Ok(()) => Err(Fail::new("a 65th instruction was loaded")),

@@ -1,7 +1,6 @@
 -- What the promises over lists of calls say of one call.
 use Rattle.std.proofs.Common.{◌≡◌, ℕ, List, [], ◌∷◌, ◌++◌, sym, ap, ◌∙◌}
-use Rattle.domain.specs.declared.Outcome.{Outcome}
-use Rattle.domain.specs.Model.{Model, Lawful}
+use Rattle.domain.specs.Model.{Model, Lawful, Outcome}
 use Rattle.calls.specs.Bench.{State, Call, evaluated}
 use Rattle.calls.specs.Histories.{answer, next, Promised, AnswersForLoaded}
 use Rattle.calls.proofs.Promise.{kept, one_more}

@@ -1,8 +1,7 @@
 -- What was loaded is kept by any list of calls. Assumes nothing.
 use Rattle.std.proofs.Common.{◌≡◌, ℕ, List, [], ◌∷◌, ◌++◌, Some, None, Option, refl, ap, ◌∙◌, subst, arith}
 use mathlib.Core.Path.{subst⁻¹}
-use Rattle.domain.specs.declared.Outcome.{Outcome}
-use Rattle.domain.specs.Model.{Model, Lawful, OutcomeRefines}
+use Rattle.domain.specs.Model.{Model, Lawful, OutcomeRefines, Outcome}
 use Rattle.semantics.specs.Programs.{Program, Refines, Evaluated, unevaluated, evaluation, outcome, records}
 use Rattle.semantics.specs.Rules.{Rule}
 use Rattle.semantics.specs.Cases.{Case, first_refuting}

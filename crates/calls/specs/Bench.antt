@@ -1,7 +1,6 @@
 -- What the eight calls of a bench answer and do. Assumes nothing.
 use Rattle.std.specs.Prelude.{ℕ, cond, List, [], ◌∷◌, ◌++◌, Some, None, Option, ◌==◌}
-use Rattle.domain.specs.declared.Outcome.{Outcome}
-use Rattle.domain.specs.Model.{Model}
+use Rattle.domain.specs.Model.{Model, Outcome}
 use Rattle.semantics.specs.Programs.{Program, Evaluated, unevaluated, evaluation, without}
 use Rattle.semantics.specs.Rules.{Rule}
 use Rattle.semantics.specs.Cases.{Case, first_refuting}

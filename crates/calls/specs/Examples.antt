@@ -1,9 +1,7 @@
 -- The worked examples at width 4: values, one instruction, one rule, a list of calls. Assumes nothing.
-use Rattle.std.specs.Prelude.{◌≡◌, ℕ, List, [], ◌∷◌, Some, codes}
+use Rattle.std.specs.Prelude.{◌≡◌, ℕ, List, [], ◌∷◌, Some, codes, Ok}
 use Rattle.vocabulary.specs.declared.operation.Operation.{Operation}
 use Rattle.vocabulary.specs.declared.operation.Operation.TheVariants.{Add, Freeze, Select}
-use Rattle.domain.specs.declared.Outcome.{Outcome}
-use Rattle.domain.specs.declared.Outcome.TheVariants.{Code}
 use Rattle.pile.specs.Examples.{Examples, house}
 use Rattle.semantics.specs.declared.Operand.{Operand}
 use Rattle.semantics.specs.declared.Operand.TheVariants.{Input, Record, Constant}
@@ -15,6 +13,7 @@ use Rattle.text.specs.Faults.{fault}
 use Rattle.text.specs.Instructions.{made}
 use Rattle.calls.specs.Bench.{Call, Answer, drafted, evaluated, refuted}
 use Rattle.calls.specs.Histories.{after, answer}
+use Rattle.domain.specs.Model.{Outcome}
 
 -- one instruction on constants in the house pile, with a choice
 abbrev pub given : Operation → List Operand → ℕ → Outcome
@@ -49,13 +48,13 @@ rewritten = record {
 pub record Worked : Type 0 where
   pub values : Examples
   -- poison as a condition gives worst, which is poison; a frozen poison is what was chosen
-  pub select_poison : given Select (Constant 16 ∷ Constant 3 ∷ Constant 4 ∷ []) 0 ≡ Code 16
-  pub freeze_poison : given Freeze (Constant 16 ∷ []) 5 ≡ Code 5
+  pub select_poison : given Select (Constant 16 ∷ Constant 3 ∷ Constant 4 ∷ []) 0 ≡ Ok 16
+  pub freeze_poison : given Freeze (Constant 16 ∷ []) 5 ≡ Ok 5
   -- the double minus with nsw is refuted at y = 1, x = 7, and enters without
   pub marked_refuted : answer house (after house (Call.draft marked ∷ [])) (Call.check 1) ≡ refuted (fault 11 0) (record { vars = 1 ∷ 7 ∷ []; choices = [] })
   pub unmarked_enters : answer house (after house (Call.draft unmarked ∷ [])) (Call.check 1) ≡ Answer.entered 1
   pub rewrites : (after house calls).loaded ≡ Some rewritten
   -- 3 and 4 give 2 × (3 + 7) modulo 16
-  pub evaluates : answer house (after house calls) (Call.evaluate (3 ∷ 4 ∷ []) []) ≡ evaluated (Code 4)
+  pub evaluates : answer house (after house calls) (Call.evaluate (3 ∷ 4 ∷ []) []) ≡ evaluated (Ok 4)
   -- the slot freed last is taken first
   pub next_slot : answer house (after house calls) (Call.draft unmarked) ≡ drafted 1

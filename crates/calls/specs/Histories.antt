@@ -1,7 +1,6 @@
 -- What any list of calls keeps, and what checking is worth. Assumes nothing.
 use Rattle.std.specs.Prelude.{◌≡◌, ℕ, ◌≤◌, ◌⊎◌, ◌↔◌, List, [], ◌∷◌, ◌++◌, length, Some, None, Option}
-use Rattle.domain.specs.declared.Outcome.{Outcome}
-use Rattle.domain.specs.Model.{Model, OutcomeRefines}
+use Rattle.domain.specs.Model.{Model, OutcomeRefines, Outcome}
 use Rattle.semantics.specs.Programs.{Program, Formed, Refines, Inputs, Choices, outcome}
 use Rattle.semantics.specs.Rules.{Rule, Match, Fits, Fresh, rewritten, ConvictedAt}
 use Rattle.semantics.specs.Cases.{from, Case, FirstRefutes}

@@ -1,8 +1,7 @@
 -- A search in the lists that are left. Assumes nothing.
 use Rattle.std.proofs.Common.{◌≡◌, ℕ, ◌+◌, ◌<◌, ◌≤◌, Bool, true, false, cond, List, [], ◌∷◌, ◌++◌, map, length, take, drop, Some, Option, sym, refl, ap, ◌∙◌, subst, arith}
 use Rattle.std.proofs.lemmas.List.{take-take, drop-take}
-use Rattle.domain.specs.Model.{Model}
-use Rattle.domain.specs.declared.Outcome.{Outcome}
+use Rattle.domain.specs.Model.{Model, Outcome}
 use Rattle.semantics.specs.Programs.{outcome}
 use Rattle.semantics.specs.Rules.{Rule, side}
 use Rattle.semantics.specs.declared.Instruction.{Instruction}

@@ -1,9 +1,7 @@
 -- A side run one instruction after the other, and its freezes counted. Assumes nothing.
-use Rattle.std.proofs.Common.{◌≡◌, ℕ, suc, ◌+◌, ◌<◌, ◌≤◌, true, false, cond, List, length, get_or, drop, set, sym, ap, ◌∙◌, add-one, arith}
+use Rattle.std.proofs.Common.{◌≡◌, ℕ, suc, ◌+◌, ◌<◌, ◌≤◌, true, false, cond, List, length, get_or, drop, set, sym, ap, ◌∙◌, add-one, arith, Ok}
 use Rattle.std.proofs.lemmas.List.{drop_more, drop_all}
-use Rattle.domain.specs.Model.{Model}
-use Rattle.domain.specs.declared.Outcome.{Outcome}
-use Rattle.domain.specs.declared.Outcome.TheVariants.{Code, Trap}
+use Rattle.domain.specs.Model.{Model, Outcome, trap}
 use Rattle.semantics.specs.Programs.{put, value, step, is_freeze, left, and_then, run, freezes}
 use Rattle.semantics.specs.Rules.{numbered}
 use Rattle.semantics.specs.Values.{env}
@@ -23,11 +21,11 @@ module _ (m : Model) (ins : List ℕ) (n : ℕ) (d : Instruction) (is : List Ins
       ∙ sym (ap (λ ys. run m ins n (numbered (i + 1) ys) (env vs) (drop used cs)) (drop_more is i d within))
       ∙ inv
 
-  pub run_traps : Trap ≡ step m (value ins (env vs)) (get_or is i d) choice → Trap ≡ whole
+  pub run_traps : trap ≡ step m (value ins (env vs)) (get_or is i d) choice → trap ≡ whole
   run_traps e = ap (λ o. and_then o behind) e ∙ opened
 
   pub run_more :
-      (v next : ℕ) → i + 1 < length vs → Code v ≡ step m (value ins (env vs)) (get_or is i d) choice → drop next cs ≡ left (get_or is i d) (drop used cs) →
+      (v next : ℕ) → i + 1 < length vs → Ok v ≡ step m (value ins (env vs)) (get_or is i d) choice → drop next cs ≡ left (get_or is i d) (drop used cs) →
       run m ins n (numbered (i + 1 + 1) (drop (i + 1) is)) (env (set vs (i + 1) v)) (drop next cs) ≡ whole
   run_more v next room e after =
       (λ j. run m ins n (numbered (add-one (i + 1) j) (drop (i + 1) is)) (sym (put_set vs (i + 1) v room) j) (after j)) ∙ ap (λ o. and_then o behind) e ∙ opened
@@ -35,7 +33,7 @@ module _ (m : Model) (ins : List ℕ) (n : ℕ) (d : Instruction) (is : List Ins
 -- nothing is left
 pub run_ends :
     (m : Model) (ins : List ℕ) (n : ℕ) (is : List Instruction) (vs cs : List ℕ) (i used : ℕ) → length is ≤ i →
-    run m ins n (numbered (i + 1) (drop i is)) (env vs) (drop used cs) ≡ Code (get_or vs n 0)
+    run m ins n (numbered (i + 1) (drop i is)) (env vs) (drop used cs) ≡ Ok (get_or vs n 0)
 run_ends m ins n is vs cs i used l = ap (λ ys. run m ins n (numbered (i + 1) ys) (env vs) (drop used cs)) (drop_all i is l)
 
 -- the freezes counted and those left

@@ -1,7 +1,6 @@
 -- What the search reads and answers. Assumes nothing.
 use Rattle.std.specs.Prelude.{ℕ, Bool, List, length, take, drop, Some, None, Option}
-use Rattle.domain.specs.Model.{Model}
-use Rattle.domain.specs.declared.Outcome.{Outcome}
+use Rattle.domain.specs.Model.{Model, Outcome}
 use Rattle.semantics.specs.Programs.{outcome}
 use Rattle.semantics.specs.Rules.{side}
 use Rattle.semantics.specs.Cases.{Case, outcome_refining}

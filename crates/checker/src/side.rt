@@ -4,7 +4,7 @@ ghost use Rattle.semantics.specs.Programs.{outcome};
 ghost use Rattle.semantics.specs.Rules.{side};
 ghost use Rattle.semantics.specs.Cases.{freezes_in, outcome_refining};
 
-use domain::{Domain, Outcome};
+use domain::{Domain, Outcome, Trapped};
 use semantics::Instruction;
 use semantics::step::{at_or_zero, is_freeze, step, used_after};
 
@@ -38,13 +38,10 @@ pub fn run_side<D: Domain>(
     let mut used = 0;
     for i in 0..body.len() {
         let choice = at_or_zero(choices, used);
-        match step(domain, body[i], variables, &values, choice) {
-            Outcome::Code(code) => values[i + 1] = code,
-            Outcome::Trap => return Outcome::Trap,
-        }
+        values[i + 1] = step(domain, body[i], variables, &values, choice)?;
         used = used_after(choices, used, body[i]);
     }
-    Outcome::Code(values[body.len()])
+    Ok(values[body.len()])
 }
 
 // Whether the target's outcome refines the source's.
@@ -52,8 +49,8 @@ pub fn outcome_refines<D: Domain>(domain: &D, target: Outcome, source: Outcome) 
     ensures { result ≡ outcome_refining (D.Domain.model domain.now) target source }
 {
     match (target, source) {
-        (Outcome::Code(a), Outcome::Code(b)) => domain.refines(a, b),
-        (Outcome::Trap, Outcome::Code(_)) => false,
-        (_, Outcome::Trap) => true,
+        (Ok(a), Ok(b)) => domain.refines(a, b),
+        (Err(Trapped), Ok(_)) => false,
+        (_, Err(Trapped)) => true,
     }
 }

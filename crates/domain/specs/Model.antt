@@ -1,11 +1,17 @@
 -- A value domain by what it answers, and the laws that it keeps. Assumes nothing.
-use Rattle.std.specs.Prelude.{◌≡◌, ℕ, ◌<◌, ◌≤◌, Bool, T, ◌⊎◌, ℤ, Some, Option, bit_and}
+use Rattle.std.specs.Prelude.{◌≡◌, ℕ, ◌<◌, ◌≤◌, Bool, T, ◌⊎◌, ℤ, Some, Option, bit_and, Ok, Err, Result}
 use Rattle.vocabulary.specs.declared.operation.Operation.{Operation}
 use Rattle.vocabulary.specs.declared.operation.Operation.TheVariants.{Copy, Freeze, Select}
-use Rattle.domain.specs.declared.Outcome.{Outcome}
-use Rattle.domain.specs.declared.Outcome.TheVariants.{Code, Trap}
+use Rattle.domain.specs.declared.Trapped.{Trapped}
 use Rattle.domain.specs.declared.Truth.{Truth}
 use Rattle.domain.specs.declared.Truth.TheVariants.{Yes, No, Neither}
+
+-- what an operation gives: a code, or a trap
+abbrev pub Outcome : Type 0
+Outcome = Result ℕ Trapped
+
+pattern abbrev pub trap : Outcome
+trap = Err record {}
 
 -- the eight questions. Codes and sizes are numbers, and a set of marks is the sum of theirs
 pub record Model : Type 0 where
@@ -20,10 +26,10 @@ pub record Model : Type 0 where
 
 -- every outcome refines a trap, and a trap refines nothing else; codes refine codes as the domain says
 abbrev pub OutcomeRefines : Model → Outcome → Outcome → Type 0
-OutcomeRefines m (Code a) (Code b) = T (m.refines a b)
-OutcomeRefines m (Code a) Trap = Unit {0}
-OutcomeRefines m Trap (Code b) = ⊥
-OutcomeRefines m Trap Trap = Unit {0}
+OutcomeRefines m (Ok a) (Ok b) = T (m.refines a b)
+OutcomeRefines m (Ok a) trap = Unit {0}
+OutcomeRefines m trap (Ok b) = ⊥
+OutcomeRefines m trap trap = Unit {0}
 
 -- a set of marks lies within another
 abbrev pub Within : ℕ → ℕ → Type 0
@@ -60,6 +66,6 @@ pub record Lawful (m : Model) : Type 0 where
   pub refines_codes : (a b : ℕ) → T (m.refines a b) → (a < m.size) × (b < m.size)
   pub truth_code : (a : ℕ) → m.size ≤ a → m.truth a ≡ Neither
   -- a computed code is a code; outside the codes and the 19 operations computing traps and breaks no mark
-  pub compute_code : (op : Operation) (marks a b c : ℕ) → m.compute op marks a b ≡ Code c → c < m.size
-  pub compute_outside : (op : Operation) (marks a b : ℕ) → Outside m op a b → m.compute op marks a b ≡ Trap
+  pub compute_code : (op : Operation) (marks a b c : ℕ) → m.compute op marks a b ≡ Ok c → c < m.size
+  pub compute_outside : (op : Operation) (marks a b : ℕ) → Outside m op a b → m.compute op marks a b ≡ trap
   pub broken_outside : (op : Operation) (a b : ℕ) → Outside m op a b → m.broken op a b ≡ 0

@@ -9,12 +9,12 @@ use vocabulary::operation::Operation;
 
 pub mod fault;
 
+// An operation gave no code: the program ends here.
+#[derive(Clone, Copy, PartialEq, Eq, Debug)]
+pub struct Trapped;
+
 // What an operation gives at two codes.
-#[derive(Clone, Copy, PartialEq, Debug)]
-pub enum Outcome {
-    Code(u16),
-    Trap,
-}
+pub type Outcome = Result<u16, Trapped>;
 
 // What a code says as a condition.
 #[derive(Clone, Copy, PartialEq, Debug)]

@@ -1,9 +1,7 @@
 -- The trap layer and the poison layer over any domain. Assumes nothing.
-use Rattle.std.specs.Prelude.{◌≡◌, ℕ, zero, suc, ◌+◌, ◌-◌, ◌<◌, Bool, true, false, cond, ◌||◌, ◌⊎◌, ◌==◌, ◌≢◌, bit_and, bit_or, nat_le, nat_lt}
+use Rattle.std.specs.Prelude.{◌≡◌, ℕ, zero, suc, ◌+◌, ◌-◌, ◌<◌, Bool, true, false, cond, ◌||◌, ◌⊎◌, ◌==◌, ◌≢◌, bit_and, bit_or, nat_le, nat_lt, Ok}
 use Rattle.vocabulary.specs.declared.operation.Operation.{Operation}
-use Rattle.domain.specs.declared.Outcome.{Outcome}
-use Rattle.domain.specs.declared.Outcome.TheVariants.{Code, Trap}
-use Rattle.domain.specs.Model.{Model}
+use Rattle.domain.specs.Model.{Model, Outcome, trap}
 
 -- the marks outside a set
 abbrev pub outside : ℕ → ℕ → ℕ
@@ -23,7 +21,7 @@ trapping m set = record {
   truth = m.truth;
   worst = m.worst;
   broken = m.broken;
-  compute = λ op marks a b. cond (violated set marks (m.broken op a b)) Trap (m.compute op (outside set marks) a b);
+  compute = λ op marks a b. cond (violated set marks (m.broken op a b)) trap (m.compute op (outside set marks) a b);
 }
 
 -- the union of sets over the numbers below a bound
@@ -37,8 +35,8 @@ any zero f = false
 any (suc n) f = f n || any n f
 
 abbrev pub is_trap : Outcome → Bool
-is_trap (Code c) = false
-is_trap Trap = true
+is_trap (Ok c) = false
+is_trap trap = true
 
 -- the one more code
 abbrev pub is_poison : Model → ℕ → Bool
@@ -67,8 +65,8 @@ gives_poison m set op marks a b = (is_poison m a || is_poison m b) || violated s
 -- a trap if it traps below for some, otherwise poison, otherwise what stands below, with the marks outside the set
 abbrev pub poison_compute : Model → ℕ → Operation → ℕ → ℕ → ℕ → Outcome
 poison_compute m set op marks a b =
-    cond (poison_traps m op (outside set marks) a b) Trap
-    (cond (gives_poison m set op marks a b) (Code m.size) (m.compute op (outside set marks) a b))
+    cond (poison_traps m op (outside set marks) a b) trap
+    (cond (gives_poison m set op marks a b) (Ok m.size) (m.compute op (outside set marks) a b))
 
 -- one more code, poison, equal to the size below. Being no code below, it is not settled and has truth neither
 abbrev pub with_poison : Model → ℕ → Model
@@ -96,5 +94,5 @@ pub record StandsForAll (m : Model) : Type 0 where
   pub unbroken : (op : Operation) (a b marks : ℕ) → bit_and (poison_broken m op a b) marks ≡ 0 → (x y : ℕ) → Stands m a x → Stands m b y → bit_and (m.broken op x y) marks ≡ 0
   pub all_unbroken : (op : Operation) (a b marks : ℕ) → ((x y : ℕ) → Stands m a x → Stands m b y → bit_and (m.broken op x y) marks ≡ 0) → bit_and (poison_broken m op a b) marks ≡ 0
   -- and it traps exactly where it does below for some of them
-  pub trap : (op : Operation) (marks a b : ℕ) → poison_traps m op marks a b ≡ true → (x : ℕ) × (y : ℕ) × Stands m a x × Stands m b y × (m.compute op marks x y ≡ Trap)
-  pub some_trap : (op : Operation) (marks a b x y : ℕ) → Stands m a x → Stands m b y → m.compute op marks x y ≡ Trap → poison_traps m op marks a b ≡ true
+  pub trap_of_some : (op : Operation) (marks a b : ℕ) → poison_traps m op marks a b ≡ true → (x : ℕ) × (y : ℕ) × Stands m a x × Stands m b y × (m.compute op marks x y ≡ trap)
+  pub some_trap : (op : Operation) (marks a b x y : ℕ) → Stands m a x → Stands m b y → m.compute op marks x y ≡ trap → poison_traps m op marks a b ≡ true

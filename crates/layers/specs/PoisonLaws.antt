@@ -1,12 +1,10 @@
 -- The poison layer keeps the laws of the domain below.
-use Rattle.std.specs.Prelude.{◌≡◌, ℕ, ◌+◌, ◌<◌, ◌≤◌, Bool, true, false, cond, ◌||◌, T, ◌⊎◌, nat_le, nat_lt, refl}
+use Rattle.std.specs.Prelude.{◌≡◌, ℕ, ◌+◌, ◌<◌, ◌≤◌, Bool, true, false, cond, ◌||◌, T, ◌⊎◌, nat_le, nat_lt, refl, Ok}
 use Rattle.std.proofs.Common.{sym, ap, subst, ◌∙◌, inl, inr, ⊎_elim, arith}
 use Rattle.std.proofs.lemmas.Bool.{ltb-true, eqb-true, eqb-false, eq-eqb, ne_eqb, leb-true, le-leb, cases_Bool, cond-true, cond-false, cond_both, or_left, or_right, or_cases, or_parts, false≢true, both_ways, cases_lt}
 use Rattle.vocabulary.specs.declared.operation.Operation.{Operation}
-use Rattle.domain.specs.declared.Outcome.{Outcome}
-use Rattle.domain.specs.declared.Outcome.TheVariants.{Code, Trap}
 use Rattle.domain.specs.declared.Truth.TheVariants.{Yes, No, Neither}
-use Rattle.domain.specs.Model.{Model, Lawful, Outside, Within, OutcomeRefines}
+use Rattle.domain.specs.Model.{Model, Lawful, Outside, Within, OutcomeRefines, Outcome, trap}
 use Rattle.layers.specs.Layers.{outside, violated, union, any, union_of, some_of, is_trap, is_poison, poison_broken, poison_traps, gives_poison, poison_compute, with_poison, poisoned, Stands}
 use Rattle.domain.proofs.Sets.{within_trans}
 use Rattle.layers.specs.Unions.{union_at, union_least, any_at, any_least}
@@ -77,9 +75,9 @@ module _ (m : Model) (set : ℕ) (l : Lawful m) where
 
   -- what refines a trap below may be anything, and what a trap refines is a trap
   trap_up : (o p : Outcome) → OutcomeRefines m o p → is_trap o ≡ true → is_trap p ≡ true
-  trap_up (Code a) p r e = absurd (false≢true e)
-  trap_up Trap (Code b) r e = absurd r
-  trap_up Trap Trap r e = refl
+  trap_up (Ok a) p r e = absurd (false≢true e)
+  trap_up trap (Ok b) r e = absurd r
+  trap_up trap trap r e = refl
 
   traps_more : (op : Operation) (marks a b a2 b2 : ℕ) → T ((with_poison m set).refines a a2) → T ((with_poison m set).refines b b2) → poison_traps m op marks a b ≡ true → poison_traps m op marks a2 b2 ≡ true
   traps_more op marks a b a2 b2 r s =
@@ -102,18 +100,18 @@ module _ (m : Model) (set : ℕ) (l : Lawful m) where
   lift a b r = shown _ (cond-false (is_poison m b) (nat_le a m.size) (m.refines a b) (kept a b r).above ∙ holds _ r)
 
   lift_outcome : (o p : Outcome) → OutcomeRefines m o p → OutcomeRefines (with_poison m set) o p
-  lift_outcome (Code a) (Code b) r = lift a b r
-  lift_outcome (Code a) Trap r = tt
-  lift_outcome Trap (Code b) r = r
-  lift_outcome Trap Trap r = tt
+  lift_outcome (Ok a) (Ok b) r = lift a b r
+  lift_outcome (Ok a) trap r = tt
+  lift_outcome trap (Ok b) r = r
+  lift_outcome trap trap r = tt
 
   -- every code refines poison
   below_poison : (a : ℕ) → a ≤ m.size → T ((with_poison m set).refines a m.size)
   below_poison a h = shown _ (cond-true (is_poison m m.size) (nat_le a m.size) (m.refines a m.size) (eq-eqb m.size m.size refl) ∙ le-leb a m.size h)
 
-  to_poison : (o : Outcome) → is_trap o ≡ false → ((c : ℕ) → o ≡ Code c → c ≤ m.size) → OutcomeRefines (with_poison m set) o (Code m.size)
-  to_poison (Code a) e h = below_poison a (h a refl)
-  to_poison Trap e h = absurd (false≢true (sym e))
+  to_poison : (o : Outcome) → is_trap o ≡ false → ((c : ℕ) → o ≡ Ok c → c ≤ m.size) → OutcomeRefines (with_poison m set) o (Ok m.size)
+  to_poison (Ok a) e h = below_poison a (h a refl)
+  to_poison trap e h = absurd (false≢true (sym e))
 
   -- where no operand is poison, it traps as below
   traps_below : (op : Operation) (marks a b : ℕ) → is_poison m a ≡ false → is_poison m b ≡ false → poison_traps m op marks a b ≡ is_trap (m.compute op marks a b)
@@ -126,26 +124,26 @@ module _ (m : Model) (set : ℕ) (l : Lawful m) where
 
   compute_more : (op : Operation) (marks a b a2 b2 : ℕ) → T ((with_poison m set).refines a a2) → T ((with_poison m set).refines b b2) → OutcomeRefines (with_poison m set) (poison_compute m set op marks a b) (poison_compute m set op marks a2 b2)
   compute_more op marks a b a2 b2 r s =
-      unless (with_poison m set) (poison_traps m op (outside set marks) a b) (poison_traps m op (outside set marks) a2 b2) (cond (gives_poison m set op marks a b) (Code m.size) (m.compute op (outside set marks) a b)) (cond (gives_poison m set op marks a2 b2) (Code m.size) (m.compute op (outside set marks) a2 b2)) (traps_more op (outside set marks) a b a2 b2 r s)
+      unless (with_poison m set) (poison_traps m op (outside set marks) a b) (poison_traps m op (outside set marks) a2 b2) (cond (gives_poison m set op marks a b) (Ok m.size) (m.compute op (outside set marks) a b)) (cond (gives_poison m set op marks a2 b2) (Ok m.size) (m.compute op (outside set marks) a2 b2)) (traps_more op (outside set marks) a b a2 b2 r s)
       (λ e _. ⊎_elim
-      (λ g. subst (OutcomeRefines (with_poison m set) (cond (gives_poison m set op marks a b) (Code m.size) (m.compute op (outside set marks) a b))) (sym (cond-true (gives_poison m set op marks a2 b2) (Code m.size) (m.compute op (outside set marks) a2 b2) g))
-      (cond_both (gives_poison m set op marks a b) (Code m.size) (m.compute op (outside set marks) a b) (λ o. OutcomeRefines (with_poison m set) o (Code m.size))
+      (λ g. subst (OutcomeRefines (with_poison m set) (cond (gives_poison m set op marks a b) (Ok m.size) (m.compute op (outside set marks) a b))) (sym (cond-true (gives_poison m set op marks a2 b2) (Ok m.size) (m.compute op (outside set marks) a2 b2) g))
+      (cond_both (gives_poison m set op marks a b) (Ok m.size) (m.compute op (outside set marks) a b) (λ o. OutcomeRefines (with_poison m set) o (Ok m.size))
       (λ _. below_poison m.size (omega arith))
       (λ n. let plain = or_parts (is_poison m a) (is_poison m b) (or_parts _ (violated set marks (poison_broken m op a b)) n).0 in
       to_poison (m.compute op (outside set marks) a b) (sym (traps_below op (outside set marks) a b plain.0 plain.1) ∙ e)
       (λ c h. let k = l.compute_code op (outside set marks) a b c h in omega arith))))
       (λ g. let n = ⊎_elim (λ x. absurd (both_ways _ g (gives_more op marks a b a2 b2 r s x))) (λ x. x) (cases_Bool (gives_poison m set op marks a b)) in
       let plain = or_parts (is_poison m a2) (is_poison m b2) (or_parts _ (violated set marks (poison_broken m op a2 b2)) g).0 in
-      subst (OutcomeRefines (with_poison m set) (cond (gives_poison m set op marks a b) (Code m.size) (m.compute op (outside set marks) a b))) (sym (cond-false (gives_poison m set op marks a2 b2) (Code m.size) (m.compute op (outside set marks) a2 b2) g))
-      (subst (λ o. OutcomeRefines (with_poison m set) o (m.compute op (outside set marks) a2 b2)) (sym (cond-false (gives_poison m set op marks a b) (Code m.size) (m.compute op (outside set marks) a b) n))
+      subst (OutcomeRefines (with_poison m set) (cond (gives_poison m set op marks a b) (Ok m.size) (m.compute op (outside set marks) a b))) (sym (cond-false (gives_poison m set op marks a2 b2) (Ok m.size) (m.compute op (outside set marks) a2 b2) g))
+      (subst (λ o. OutcomeRefines (with_poison m set) o (m.compute op (outside set marks) a2 b2)) (sym (cond-false (gives_poison m set op marks a b) (Ok m.size) (m.compute op (outside set marks) a b) n))
       (lift_outcome (m.compute op (outside set marks) a b) (m.compute op (outside set marks) a2 b2) (l.compute_mono op (outside set marks) a b a2 b2 (lower a a2 r plain.0) (lower b b2 s plain.1)))))
       (cases_Bool (gives_poison m set op marks a2 b2)))
 
-  poison_or : (s : Bool) (o : Outcome) (c : ℕ) → cond s (Code m.size) o ≡ Code c → (m.size ≡ c) ⊎ (o ≡ Code c)
+  poison_or : (s : Bool) (o : Outcome) (c : ℕ) → cond s (Ok m.size) o ≡ Ok c → (m.size ≡ c) ⊎ (o ≡ Ok c)
   poison_or true o c e = inl (cc)
   poison_or false o c e = inr e
 
-  compute_codes : (op : Operation) (marks a b c : ℕ) → poison_compute m set op marks a b ≡ Code c → c < m.size + 1
+  compute_codes : (op : Operation) (marks a b c : ℕ) → poison_compute m set op marks a b ≡ Ok c → c < m.size + 1
   compute_codes op marks a b c e =
       ⊎_elim (λ z. omega arith) (λ z. let k = l.compute_code op (outside set marks) a b c z in omega arith)
       (poison_or (gives_poison m set op marks a b) (m.compute op (outside set marks) a b) c (unless_code (poison_traps m op (outside set marks) a b) _ c e).1)
@@ -188,9 +186,9 @@ module _ (m : Model) (set : ℕ) (l : Lawful m) where
       past : (c z : ℕ) → Stands m c z → m.size + 1 ≤ c → m.size ≤ z
       past c z s h = ⊎_elim (λ t. let e = t.0 in absurd (omega arith)) (λ t. let e = t.1 in omega arith) s
 
-  traps_outside : (op : Operation) (marks a b : ℕ) → Outside (with_poison m set) op a b → poison_compute m set op marks a b ≡ Trap
+  traps_outside : (op : Operation) (marks a b : ℕ) → Outside (with_poison m set) op a b → poison_compute m set op marks a b ≡ trap
   traps_outside op marks a b o =
-      cond-true (poison_traps m op (outside set marks) a b) Trap _
+      cond-true (poison_traps m op (outside set marks) a b) trap _
       (some_each m l.least_size a (λ x. some_of m b (λ y. is_trap (m.compute op (outside set marks) x y)))
       (λ x p. some_each m l.least_size b (λ y. is_trap (m.compute op (outside set marks) x y))
       (λ y q. ap is_trap (l.compute_outside op (outside set marks) x y (still_outside op a b x y p q o)))))

@@ -1,10 +1,8 @@
 -- What an operand of the poison layer stands for, and what is united or tested over that.
-use Rattle.std.specs.Prelude.{◌≡◌, ℕ, ◌<◌, ◌≤◌, Bool, true, false, bit_and, refl}
+use Rattle.std.specs.Prelude.{◌≡◌, ℕ, ◌<◌, ◌≤◌, Bool, true, false, bit_and, refl, Ok}
 use Rattle.std.proofs.Common.{sym, ap, subst, ◌∙◌, inl, inr, ⊎_elim, arith}
 use Rattle.std.proofs.lemmas.Bool.{cases_Bool, cond-true, cond-false, cond_both, eqb-true, eqb-false, eq-eqb, ne_eqb, false≢true}
-use Rattle.domain.specs.declared.Outcome.{Outcome}
-use Rattle.domain.specs.declared.Outcome.TheVariants.{Code, Trap}
-use Rattle.domain.specs.Model.{Model, Within}
+use Rattle.domain.specs.Model.{Model, Within, Outcome, trap}
 use Rattle.layers.specs.Layers.{union, any, is_poison, is_trap, union_of, some_of, poison_broken, Stands, StandsForAll}
 use Rattle.domain.proofs.Sets.{misses, within_self}
 use Rattle.layers.specs.Unions.{union_at, union_misses, union_empty, any_at, any_found}
@@ -55,9 +53,9 @@ module _ (m : Model) where
       cond_both (is_poison m c) (union m.size f) (f c) (λ u. u ≡ 0)
       (λ e. union_empty m.size f (λ x k. h x (poison_stands c x e k))) (λ e. h c (self_stands c e))
 
-  a_trap : (o : Outcome) → is_trap o ≡ true → o ≡ Trap
-  a_trap (Code c) e = absurd (false≢true e)
-  a_trap Trap e = refl
+  a_trap : (o : Outcome) → is_trap o ≡ true → o ≡ trap
+  a_trap (Ok c) e = absurd (false≢true e)
+  a_trap trap e = refl
 
   pub stands_for_all : StandsForAll m
   stands_for_all = record {
@@ -65,7 +63,7 @@ module _ (m : Model) where
         misses (m.broken op x y) (union_of m b (m.broken op x)) marks (union_has b y (m.broken op x) t)
         (misses (union_of m b (m.broken op x)) (poison_broken m op a b) marks (union_has a x (λ z. union_of m b (m.broken op z)) s) e);
     all_unbroken = λ op a b marks h. union_missed a marks (λ x. union_of m b (m.broken op x)) (λ x s. union_missed b marks (m.broken op x) (λ y t. h x y s t));
-    trap = λ op marks a b e.
+    trap_of_some = λ op marks a b e.
         let (x, s, f) = some_found a (λ z. some_of m b (λ y. is_trap (m.compute op marks z y))) e in
         let (y, t, g) = some_found b (λ z. is_trap (m.compute op marks x z)) f in
         (x, y, s, t, a_trap (m.compute op marks x y) g);

@@ -1,11 +1,11 @@
 // The poison layer: a broken mark gives poison, which stands for every code below.
-ghost use Rattle.std.specs.Prelude.{◌≡◌, if◌then◌else◌, nat_lt};
-ghost use Rattle.domain.specs.declared.Outcome.TheVariants.{Code, Trap};
+ghost use Rattle.std.specs.Prelude.{◌≡◌, if◌then◌else◌, Ok, nat_lt};
+ghost use Rattle.domain.specs.Model.{trap};
 ghost use Rattle.layers.specs.Layers.{poisoned, is_poison, is_trap, union_of, some_of, poison_broken, poison_traps, StandsForAll};
 ghost use Rattle.layers.specs.PoisonLaws.{poisoned_lawful};
 
 use crate::layer::violates;
-use domain::{Domain, Outcome, Truth};
+use domain::{Domain, Outcome, Trapped, Truth};
 use vocabulary::marks::Marks;
 use vocabulary::operation::Operation;
 
@@ -71,10 +71,7 @@ impl<D: Domain> Poison<D> {
     fn traps_below(&self, op: Operation, marks: Marks, a: u16, b: u16) -> bool
         ensures { result ≡ is_trap ((D.Domain.model self.now.below).compute op marks.bits a b) }
     {
-        match self.below.compute(op, marks, a, b) {
-            Outcome::Code(_) => false,
-            Outcome::Trap => true,
-        }
+        self.below.compute(op, marks, a, b).is_err()
     }
 
     // Whether computing below traps for some code that the second operand stands for.
@@ -111,12 +108,12 @@ impl<D: Domain> Poison<D> {
 
     // An operation of which an operand is poison.
     fn compute_poison(&self, op: Operation, marks: Marks, a: u16, b: u16) -> Outcome
-        ensures { result ≡ (if poison_traps (D.Domain.model self.now.below) op marks.bits a b then Trap else Code (D.Domain.model self.now.below).size) }
+        ensures { result ≡ (if poison_traps (D.Domain.model self.now.below) op marks.bits a b then trap else Ok (D.Domain.model self.now.below).size) }
     {
         if self.traps_both(op, marks, a, b) {
-            Outcome::Trap
+            Err(Trapped)
         } else {
-            Outcome::Code(self.below.size())
+            Ok(self.below.size())
         }
     }
 }
@@ -174,15 +171,11 @@ impl<D: Domain> Domain for Poison<D> {
         if self.is_poison(a) || self.is_poison(b) {
             return self.compute_poison(op, inner, a, b);
         }
-        match self.below.compute(op, inner, a, b) {
-            Outcome::Trap => Outcome::Trap,
-            Outcome::Code(code) => {
-                if violates(&self.below, self.marks, op, marks, a, b) {
-                    Outcome::Code(self.below.size())
-                } else {
-                    Outcome::Code(code)
-                }
-            }
+        let code = self.below.compute(op, inner, a, b)?;
+        if violates(&self.below, self.marks, op, marks, a, b) {
+            Ok(self.below.size())
+        } else {
+            Ok(code)
         }
     }
 }

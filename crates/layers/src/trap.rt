@@ -4,7 +4,7 @@ ghost use Rattle.layers.specs.Layers.{trapping};
 ghost use Rattle.layers.specs.TrapLaws.{trapping_lawful};
 
 use crate::layer::violates;
-use domain::{Domain, Outcome, Truth};
+use domain::{Domain, Outcome, Trapped, Truth};
 use vocabulary::marks::Marks;
 use vocabulary::operation::Operation;
 
@@ -58,7 +58,7 @@ impl<D: Domain> Domain for Trap<D> {
 
     fn compute(&self, op: Operation, marks: Marks, a: u16, b: u16) -> Outcome {
         if violates(&self.below, self.marks, op, marks, a, b) {
-            return Outcome::Trap;
+            return Err(Trapped);
         }
         self.below.compute(op, marks.without(self.marks), a, b)
     }

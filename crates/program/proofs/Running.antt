@@ -1,8 +1,6 @@
 -- A run along the chain. Assumes nothing.
-use Rattle.std.proofs.Common.{◌≡◌, ℕ, ◌-◌, ◌<◌, List, [], ◌∷◌, map, length, get_or, drop, set, replicate, sym, refl, ap, ◌∙◌, subst, arith}
-use Rattle.domain.specs.Model.{Model}
-use Rattle.domain.specs.declared.Outcome.{Outcome}
-use Rattle.domain.specs.declared.Outcome.TheVariants.{Code, Trap}
+use Rattle.std.proofs.Common.{◌≡◌, ℕ, ◌-◌, ◌<◌, List, [], ◌∷◌, map, length, get_or, drop, set, replicate, sym, refl, ap, ◌∙◌, subst, arith, Ok}
+use Rattle.domain.specs.Model.{Model, Outcome, trap}
 use Rattle.semantics.specs.Programs.{run, put, value, step, head, left, and_then, nothing_yet}
 use Rattle.semantics.specs.Values.{env}
 use Rattle.semantics.specs.declared.Instruction.{Instruction}
@@ -39,10 +37,10 @@ module _ (m : Model) (ins cs : List ℕ) (result : ℕ) (links : List ℕ) (is :
       ap (λ x. and_then (step m (value ins (env values)) x (head (drop used cs))) (go x)) (sym ei) ∙
       ap (λ h. and_then (step m (value ins (env values)) i h) (go i)) (head_drop cs used ∙ sym ec)
 
-  pub traps : Trap ≡ step m (value ins (env values)) i choice → Trap ≡ run m ins result (map (placed is) (walk links first)) nothing_yet cs
+  pub traps : trap ≡ step m (value ins (env values)) i choice → trap ≡ run m ins result (map (placed is) (walk links first)) nothing_yet cs
   traps e = ap (λ o. and_then o (go i)) e ∙ sym opens ∙ r.same
 
-  pub goes_on : (v used2 to : ℕ) → at < length values → Code v ≡ step m (value ins (env values)) i choice → drop used2 cs ≡ left i (drop used cs) → to ≡ link links at → Running m ins cs result links is first to (set values at v) used2
+  pub goes_on : (v used2 to : ℕ) → at < length values → Ok v ≡ step m (value ins (env values)) i choice → drop used2 cs ≡ left i (drop used cs) → to ≡ link links at → Running m ins cs result links is first to (set values at v) used2
   goes_on v used2 to h e d t = record {
     rest = w.behind;
     chain = subst (λ f. Chained links f w.behind) (sym t) w.chain;
@@ -52,6 +50,6 @@ module _ (m : Model) (ins cs : List ℕ) (result : ℕ) (links : List ℕ) (is :
         ap (λ o. and_then o (go i)) e ∙ sym opens ∙ r.same;
   }
 
-pub ends_with : (m : Model) (ins cs : List ℕ) (result : ℕ) (is : List Instruction) (links : List ℕ) (at : ℕ) (rest : List ℕ) (values : List ℕ) (used : ℕ) → Chained links at rest → at ≡ 0 → run m ins result (map (placed is) rest) (env values) (drop used cs) ≡ Code (get_or values result 0)
+pub ends_with : (m : Model) (ins cs : List ℕ) (result : ℕ) (is : List Instruction) (links : List ℕ) (at : ℕ) (rest : List ℕ) (values : List ℕ) (used : ℕ) → Chained links at rest → at ≡ 0 → run m ins result (map (placed is) rest) (env values) (drop used cs) ≡ Ok (get_or values result 0)
 ends_with m ins cs result is links at [] values used c z = refl
 ends_with m ins cs result is links at (k ∷ ks) values used c z = absurd (omega (arith, z, c.0, c.1))

@@ -1,9 +1,9 @@
 -- What evaluating refuses. Assumes nothing.
 use Rattle.std.specs.Prelude.{ℕ, Ok, Err, Result}
-use Rattle.domain.specs.declared.Outcome.{Outcome}
 use Rattle.semantics.specs.Programs.{Evaluated, evaluated, unevaluated}
 use Rattle.program.specs.declared.fault.EvaluateFault.{EvaluateFault}
 use Rattle.program.specs.declared.fault.EvaluateFault.TheVariants.{WrongCount, WrongCode}
+use Rattle.domain.specs.Model.{Outcome}
 
 -- the number by which a refusal is told
 abbrev pub fault_number : EvaluateFault → ℕ

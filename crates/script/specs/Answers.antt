@@ -1,11 +1,10 @@
 -- What is printed for an answer, without its line feed. Assumes nothing.
-use Rattle.std.specs.Prelude.{ℕ, cond, List, [], ◌∷◌, ◌++◌, codes, decimal, bit_and, nat_lt}
-use Rattle.domain.specs.declared.Outcome.{Outcome}
-use Rattle.domain.specs.declared.Outcome.TheVariants.{Code, Trap}
+use Rattle.std.specs.Prelude.{ℕ, cond, List, [], ◌∷◌, ◌++◌, codes, decimal, bit_and, nat_lt, Ok}
 use Rattle.vocabulary.specs.declared.marks.Marks.{Marks}
 use Rattle.scan.specs.Pieces.{Bytes}
 use Rattle.text.specs.Faults.{Fault, Layer, text_layer, domain_layer, rule_layer, book_layer, program_layer}
 use Rattle.calls.specs.Bench.{Answer}
+use Rattle.domain.specs.Model.{Outcome, trap}
 
 -- the name of a mark that a set has
 abbrev pub mark_text : Marks → Marks → Bytes → Bytes
@@ -28,8 +27,8 @@ numbers_text [] = []
 numbers_text (n ∷ ns) = (codes " " ++ decimal n) ++ numbers_text ns
 
 abbrev pub outcome_text : Outcome → Bytes
-outcome_text (Code c) = codes "code " ++ decimal c
-outcome_text Trap = codes "trap"
+outcome_text (Ok c) = codes "code " ++ decimal c
+outcome_text trap = codes "trap"
 
 abbrev pub layer_text : Layer → Bytes
 layer_text text_layer = codes "text"

@@ -1,10 +1,9 @@
 -- What a script does, item by item, and all that is printed for it. Assumes nothing.
 use Rattle.std.specs.Prelude.{ℕ, Bool, cond, ◌&&◌, List, [], ◌∷◌, ◌++◌, Some, None, codes, decimal, Option, nat_le}
 use Rattle.std.specs.Option.{option_map}
-use Rattle.domain.specs.declared.Outcome.{Outcome}
 use Rattle.vocabulary.specs.declared.marks.Marks.{Marks}
 use Rattle.domain.specs.Faults.{fault_number}
-use Rattle.domain.specs.Model.{Model}
+use Rattle.domain.specs.Model.{Model, Outcome}
 use Rattle.words.specs.Words.{words}
 use Rattle.pile.specs.Piles.{over, pile_model}
 use Rattle.scan.specs.Pieces.{Bytes}

@@ -9,8 +9,8 @@ ghost use Rattle.script.specs.Transcripts.{answer_seen, told_text};
 
 use crate::show::write_present;
 use bench::fault::{BenchFault, FaultLayer};
-use domain::Outcome;
 use domain::fault::DomainFault;
+use domain::{Outcome, Trapped};
 use program::table::Table;
 use std::alloc::AllocError;
 use vocabulary::marks::Marks;
@@ -62,8 +62,8 @@ fn write_outcome(out: &mut String, outcome: Outcome) -> Result<(), AllocError>
     ensures { OnOk result (string_bytes out.new ≡ string_bytes out.old ++ outcome_text outcome) }
 {
     match outcome {
-        Outcome::Code(code) => write!(out, "code {code}"),
-        Outcome::Trap => write!(out, "trap"),
+        Ok(code) => write!(out, "code {code}"),
+        Err(Trapped) => write!(out, "trap"),
     }
 }
 

@@ -1,10 +1,8 @@
 -- A run of the new program beside one of the old program that follows it, by their valuations. Assumes nothing.
-use Rattle.std.proofs.Common.{◌≡◌, ℕ, ◌<◌, T, List, [], get_or, sym, refl, ap, ◌∙◌, subst}
+use Rattle.std.proofs.Common.{◌≡◌, ℕ, ◌<◌, T, List, [], get_or, sym, refl, ap, ◌∙◌, subst, Ok}
 use mathlib.Core.Path.{subst⁻¹}
-use Rattle.domain.specs.Model.{Model, Lawful, OutcomeRefines}
+use Rattle.domain.specs.Model.{Model, Lawful, OutcomeRefines, Outcome, trap}
 use Rattle.semantics.specs.Programs.{Env, value, step, reads, records, All}
-use Rattle.domain.specs.declared.Outcome.{Outcome}
-use Rattle.domain.specs.declared.Outcome.TheVariants.{Code, Trap}
 use Rattle.semantics.proofs.Members.{In, Each}
 use Rattle.semantics.proofs.Steps.{code_of, Follows, step_follows, step_mono}
 use Rattle.semantics.proofs.Solutions.{Solves, input_code}
@@ -21,9 +19,9 @@ pub record Beside {m : Model} (c : Fitting m) (ins : List ℕ) (f : ℕ → ℕ)
   pub follow : (k : ℕ) → Stays c k → T (m.settled (ρ k)) → g k ≡ ρ k
 
 -- what refines a code is a code
-code_refines : (m : Model) (o : Outcome) (b : ℕ) → OutcomeRefines m o (Code b) → T (m.refines (code_of o) b)
-code_refines m (Code a) b h = h
-code_refines m Trap b h = absurd h
+code_refines : (m : Model) (o : Outcome) (b : ℕ) → OutcomeRefines m o (Ok b) → T (m.refines (code_of o) b)
+code_refines m (Ok a) b h = h
+code_refines m trap b h = absurd h
 
 module _ {m : Model} {c : Fitting m} {ins : List ℕ} {f : ℕ → ℕ} {ρ : Env} {g : ℕ → ℕ} {σ : Env} (b : Beside c ins f ρ g σ) where
   -- an instruction that stays has its value in the new program
@@ -49,7 +47,7 @@ module _ {m : Model} {c : Fitting m} {ins : List ℕ} {f : ℕ → ℕ} {ρ : En
   variable_same = variable_holds c (λ o. value ins ρ o ≡ value ins σ o) (λ k l. refl) same_before (λ d t. refl)
 
   -- where the old program goes through, and the value at the place refines the old one
-  module _ (law : Lawful m) (codes : All (λ d. d < m.size) ins) (goes-old : Each c.old.body (λ q i. step m (value ins σ) i (g q) ≡ Code (σ q))) (met : T (m.refines (ρ c.at) (σ c.at))) where
+  module _ (law : Lawful m) (codes : All (λ d. d < m.size) ins) (goes-old : Each c.old.body (λ q i. step m (value ins σ) i (g q) ≡ Ok (σ q))) (met : T (m.refines (ρ c.at) (σ c.at))) where
     abbrev Refine : ℕ → ℕ → Type 0
     Refine x y = T (m.refines x y)
 
@@ -59,7 +57,7 @@ module _ {m : Model} {c : Fitting m} {ins : List ℕ} {f : ℕ → ℕ} {ρ : En
     constants : (d : ℕ) → T (m.settled d) → Refine d d
     constants d t = law.refines_refl d (law.settled_code d t)
 
-    mono : Each c.old.body (λ q i. Stays c q → All (λ o. Refine (value ins ρ o) (value ins σ o)) (reads i) → OutcomeRefines m (step m (value ins ρ) i (f q)) (Code (σ q)))
+    mono : Each c.old.body (λ q i. Stays c q → All (λ o. Refine (value ins ρ o) (value ins σ o)) (reads i) → OutcomeRefines m (step m (value ins ρ) i (f q)) (Ok (σ q)))
     mono q i s k all = subst (OutcomeRefines m (step m (value ins ρ) i (f q))) (goes-old q i s) (step_mono m law (value ins ρ) (value ins σ) i (f q) (g q) (b.settled q) (follows q i s k) all)
 
     -- all that stays has a value that refines the old one
@@ -72,7 +70,7 @@ module _ {m : Model} {c : Fitting m} {ins : List ℕ} {f : ℕ → ℕ} {ρ : En
         (λ q i s k all. subst⁻¹ (λ z. Refine z (σ q)) (value_new q i s k) (code_refines m _ (σ q) (mono q i s k all)))
 
     -- and does not trap
-    pub kept_goes : Each c.old.body (λ q i. Stays c q → step m (value ins ρ) i (f q) ≡ Trap → ⊥)
-    kept_goes q i s k trap =
+    pub kept_goes : Each c.old.body (λ q i. Stays c q → step m (value ins ρ) i (f q) ≡ trap → ⊥)
+    kept_goes q i s k ends =
         let all = operands_related m c.old.inputs (gone c) c.at ins ρ σ Refine inputs constants (records (before q c.old.body)) (λ k h. refined k (in_before q c.old.body k h)) (reads i) (unread c q i s k) (reads_before m c.old.inputs c.old.body c.formed.ordered q i s) in
-        subst (λ o. OutcomeRefines m o (Code (σ q))) trap (mono q i s k all)
+        subst (λ o. OutcomeRefines m o (Ok (σ q))) ends (mono q i s k all)

@@ -1,11 +1,10 @@
 -- A refuted rule is convicted by its own source. Assumes nothing.
-use Rattle.std.proofs.Common.{◌≡◌, ℕ, not, T, ◌⊎◌, List, [], ◌∷◌, ◌++◌, map, length, sym, refl, ap, ◌∙◌, subst, inl, inr, ⊎_elim, append-nil}
+use Rattle.std.proofs.Common.{◌≡◌, ℕ, not, T, ◌⊎◌, List, [], ◌∷◌, ◌++◌, map, length, sym, refl, ap, ◌∙◌, subst, inl, inr, ⊎_elim, append-nil, Ok}
 use Rattle.domain.specs.Model.{Model, OutcomeRefines}
 use Rattle.semantics.specs.Programs.{Placed, Choices, Env, put, value, head, left, and_then, nothing_yet, run, outcome, reads, has, records, Readable, Ordered}
 use Rattle.semantics.specs.Rules.{Rule, WellMade, Refutes, numbered, target_of, source_of, any_reads, Match, Agrees, Agree, Matched, Distinct, matches, removed, Fits, placed, rewritten, Fresh}
 use Rattle.semantics.specs.declared.Operand.{Operand}
 use Rattle.semantics.specs.declared.Operand.TheVariants.{Input, Record, Constant}
-use Rattle.domain.specs.declared.Outcome.TheVariants.{Code}
 use Rattle.semantics.proofs.Members.{In, in_cases, into_more, unlike, out, Each, all_from_each, stands_in, in_stands, in_onwards, all_weaker}
 use Rattle.semantics.proofs.Steps.{step_agrees}
 use Rattle.semantics.proofs.Choices.{put_same, put_other}
@@ -85,7 +84,7 @@ module _ (m : Model) (k n : ℕ) (ins : List ℕ) (h : ℕ → ℕ) (result : �
 
   renamed : (d e : List ℕ) (xs : List Placed) → Ordered m k d xs → Ordered m n e (map (placed itself h) xs) → ((j : ℕ) → In j d → In (h j) e) → (ρ σ : Env) → ((j : ℕ) → In j d → σ (h j) ≡ ρ j) →
       In result d ⊎ In result (records xs) → (cs : List ℕ) → run m ins (h result) (map (placed itself h) xs) σ cs ≡ run m ins result xs ρ cs
-  renamed d e [] o q into ρ σ agree (inl old) cs = ap Code (agree result old)
+  renamed d e [] o q into ρ σ agree (inl old) cs = ap Ok (agree result old)
   renamed d e [] o q into ρ σ agree (inr none) cs = absurd none
   renamed d e (x ∷ xs) o q into ρ σ agree there cs =
       let first = step_agrees m (rehomed itself h) (value ins σ) (value ins ρ) x.what (placed itself h x).what (head cs) (alike_home itself h x) (all_weaker (Readable m k d) _ (agreed d ρ σ agree) (reads x.what) o.3) in

@@ -1,7 +1,6 @@
 -- An evaluation that is not refused is the outcome at inputs and choices of the program. Assumes nothing.
 use Rattle.std.proofs.Common.{◌≡◌, ℕ, ◌<◌, Bool, true, false, cond, ◌&&◌, T, eqb, ltb, List, length, arith, eqb→eq, ltb→lt}
-use Rattle.domain.specs.declared.Outcome.{Outcome}
-use Rattle.domain.specs.Model.{Model}
+use Rattle.domain.specs.Model.{Model, Outcome}
 use Rattle.semantics.specs.Programs.{Program, Inputs, Choices, all, freezes, outcome, evaluated, unevaluated, evaluation}
 use Rattle.semantics.proofs.Reflect.{both, all_holds}
 

@@ -1,23 +1,21 @@
 -- Refinement of programs is reflexive and transitive. Assumes nothing.
-use Rattle.std.proofs.Common.{◌≡◌, ℕ, T, List, [], refl, ◌∙◌, subst, inr}
+use Rattle.std.proofs.Common.{◌≡◌, ℕ, T, List, [], refl, ◌∙◌, subst, inr, Ok}
 use mathlib.Core.Path.{subst⁻¹}
-use Rattle.domain.specs.Model.{Model, Lawful, OutcomeRefines}
+use Rattle.domain.specs.Model.{Model, Lawful, OutcomeRefines, Outcome, trap}
 use Rattle.semantics.specs.Programs.{Program, Formed, Inputs, Choices, Refines, Env, nothing_yet, outcome}
-use Rattle.domain.specs.declared.Outcome.{Outcome}
-use Rattle.domain.specs.declared.Outcome.TheVariants.{Code, Trap}
 use Rattle.semantics.proofs.Choices.{gather, spread}
 use Rattle.semantics.proofs.Solutions.{Solves, solution, Ends, goes, traps, ends, solved_code}
 
 -- outcomes
 trans_outcome : (m : Model) → Lawful m → (a b c : Outcome) → OutcomeRefines m a b → OutcomeRefines m b c → OutcomeRefines m a c
-trans_outcome m law (Code a) (Code b) (Code c) h k = law.refines_trans a b c h k
-trans_outcome m law (Code a) (Code b) Trap h k = tt
-trans_outcome m law (Code a) Trap (Code c) h k = absurd k
-trans_outcome m law (Code a) Trap Trap h k = tt
-trans_outcome m law Trap (Code b) (Code c) h k = absurd h
-trans_outcome m law Trap (Code b) Trap h k = tt
-trans_outcome m law Trap Trap (Code c) h k = absurd k
-trans_outcome m law Trap Trap Trap h k = tt
+trans_outcome m law (Ok a) (Ok b) (Ok c) h k = law.refines_trans a b c h k
+trans_outcome m law (Ok a) (Ok b) trap h k = tt
+trans_outcome m law (Ok a) trap (Ok c) h k = absurd k
+trans_outcome m law (Ok a) trap trap h k = tt
+trans_outcome m law trap (Ok b) (Ok c) h k = absurd h
+trans_outcome m law trap (Ok b) trap h k = tt
+trans_outcome m law trap trap (Ok c) h k = absurd k
+trans_outcome m law trap trap trap h k = tt
 
 -- an outcome refines itself, since it is a code or a trap
 outcome_itself : (m : Model) → Lawful m → (p : Program) → Formed m p → (ins cs : List ℕ) → Inputs m p ins → Choices m p cs → OutcomeRefines m (outcome m p ins cs) (outcome m p ins cs)

@@ -1,13 +1,11 @@
 -- The search for the first refuting case is exact. Assumes nothing.
-use Rattle.std.proofs.Common.{◌≡◌, ℕ, zero, suc, ◌*◌, ◌^◌, ◌<◌, Bool, T, List, [], ◌++◌, length, replicate, Some, None, Option, sym, refl, ap, ◌∙◌, subst, subst₂, ⊎_elim, arith, take-append-drop}
+use Rattle.std.proofs.Common.{◌≡◌, ℕ, zero, suc, ◌*◌, ◌^◌, ◌<◌, Bool, T, List, [], ◌++◌, length, replicate, Some, None, Option, sym, refl, ap, ◌∙◌, subst, subst₂, ⊎_elim, arith, take-append-drop, Ok}
 use mathlib.Core.Path.{subst⁻¹}
 use lib.ListN.{length-map}
-use Rattle.domain.specs.Model.{Model, Lawful, OutcomeRefines}
+use Rattle.domain.specs.Model.{Model, Lawful, OutcomeRefines, Outcome, trap}
 use Rattle.semantics.specs.Programs.{All, Inputs, Choices, Refines, outcome}
 use Rattle.semantics.specs.Rules.{Rule, source_of, target_of, Refutes}
 use Rattle.semantics.specs.Cases.{codes, settled_codes, tuples, freezes_in, Case, as_case, entries, cases, source_choices, outcome_refining, refutes, first_refuting, Before, Listed, Rising, ComesBefore, FirstRefutes, CheckingExact}
-use Rattle.domain.specs.declared.Outcome.{Outcome}
-use Rattle.domain.specs.declared.Outcome.TheVariants.{Code, Trap}
 use Rattle.semantics.proofs.Members.{all_weaker}
 use Rattle.semantics.proofs.Listed.{listed_map, map_listed, rising_map, from_bounds, bounds_from, from_rising, length_from, keep_listed, listed_keep, keep_rising, none_or_some, none_passes, first_none, first_some}
 use Rattle.semantics.proofs.Numbering.{get_d_map, tuple_numbered}
@@ -15,17 +13,17 @@ use Rattle.semantics.proofs.Tuples.{tuple_one_each, one_each_tuple, tuples_risin
 
 -- the test of two outcomes
 test_refines : (m : Model) (a b : Outcome) → T (outcome_refining m a b) → OutcomeRefines m a b
-test_refines m (Code a) (Code b) t = t
-test_refines m (Code a) Trap t = tt
-test_refines m Trap (Code b) t = absurd t
-test_refines m Trap Trap t = tt
+test_refines m (Ok a) (Ok b) t = t
+test_refines m (Ok a) trap t = tt
+test_refines m trap (Ok b) t = absurd t
+test_refines m trap trap t = tt
 
 -- and the other way round
 refines_test : (m : Model) (a b : Outcome) → OutcomeRefines m a b → T (outcome_refining m a b)
-refines_test m (Code a) (Code b) t = t
-refines_test m (Code a) Trap t = tt
-refines_test m Trap (Code b) t = absurd t
-refines_test m Trap Trap t = tt
+refines_test m (Ok a) (Ok b) t = t
+refines_test m (Ok a) trap t = tt
+refines_test m trap (Ok b) t = absurd t
+refines_test m trap trap t = tt
 
 -- the sets rise
 all_rising : (n : ℕ) (d : List ℕ) (es : List (List ℕ)) → Rising ◌<◌ d → All (Rising ◌<◌) es → All (Rising ◌<◌) (replicate n d ++ es)

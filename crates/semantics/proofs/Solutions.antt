@@ -1,14 +1,12 @@
 -- A run by one valuation of all its records. Assumes nothing.
-use Rattle.std.proofs.Common.{◌≡◌, ℕ, zero, suc, ◌<◌, Bool, true, false, cond, not, T, ◌⊎◌, List, [], ◌∷◌, get_or, sym, refl, ap, ◌∙◌, inl, inr, ⊎_elim, arith}
+use Rattle.std.proofs.Common.{◌≡◌, ℕ, zero, suc, ◌<◌, Bool, true, false, cond, not, T, ◌⊎◌, List, [], ◌∷◌, get_or, sym, refl, ap, ◌∙◌, inl, inr, ⊎_elim, arith, Ok}
 use mathlib.Core.Path.{subst⁻¹}
-use Rattle.domain.specs.Model.{Model, Lawful}
+use Rattle.domain.specs.Model.{Model, Lawful, Outcome, trap}
 use Rattle.semantics.specs.Programs.{Kind, binary, copying, freezing, selecting, kind, freeze_kind, Placed, Env, put, value, step_of, step, is_freeze, head, tail, and_then, run, reads, has, records, Readable, All, Ordered}
 use Rattle.semantics.specs.Rules.{Stands}
 use Rattle.semantics.specs.declared.Operand.{Operand}
 use Rattle.semantics.specs.declared.Operand.TheVariants.{Input, Record, Constant}
 use Rattle.semantics.specs.declared.Instruction.{Instruction}
-use Rattle.domain.specs.declared.Outcome.{Outcome}
-use Rattle.domain.specs.declared.Outcome.TheVariants.{Code, Trap}
 use Rattle.semantics.proofs.Members.{In, in_first, in_there, in_cases, unlike, Each, each_head, each_tail, each_cons, in_onwards, all_weaker}
 use Rattle.semantics.proofs.Steps.{code_of, step_same, step_code}
 use Rattle.semantics.proofs.Choices.{put_same, put_other, gather}
@@ -38,8 +36,8 @@ solution m n ins f e (x ∷ xs) o start =
 
 -- how a run ends whose body ρ solves: no instruction traps and the result's value is the outcome, or one does and so does the run
 pub data Ends (m : Model) (ins : List ℕ) (ρ : Env) (f : ℕ → ℕ) (xs : List Placed) (result : ℕ) (o : Outcome) : Type 0 where
-  goes : Each xs (λ r i. step m (value ins ρ) i (f r) ≡ Code (ρ r)) → o ≡ Code (ρ result) → Ends m ins ρ f xs result o
-  traps : (r : ℕ) (i : Instruction) → Stands xs r i → step m (value ins ρ) i (f r) ≡ Trap → o ≡ Trap → Ends m ins ρ f xs result o
+  goes : Each xs (λ r i. step m (value ins ρ) i (f r) ≡ Ok (ρ r)) → o ≡ Ok (ρ result) → Ends m ins ρ f xs result o
+  traps : (r : ℕ) (i : Instruction) → Stands xs r i → step m (value ins ρ) i (f r) ≡ trap → o ≡ trap → Ends m ins ρ f xs result o
 
 -- the choice at hand is the instruction's own, and the others are left
 choice_of : (k : Kind) (m : Model) (u : Operand → ℕ) (i : Instruction) (c : ℕ) (cs : List ℕ) → step_of k m u i (head (cond (freeze_kind k) (c ∷ cs) cs)) ≡ step_of k m u i c
@@ -68,7 +66,7 @@ put_agrees e ρ σ r v h p new k i =
 module _ (m : Model) (n : ℕ) (ins : List ℕ) (ρ : Env) (f : ℕ → ℕ) (result : ℕ) where
   -- a run whose body ρ solves has the values of ρ
   pub ends : (e : List ℕ) (xs : List Placed) → Ordered m n e xs → Solves m ins ρ f xs → (start : Env) → ((k : ℕ) → In k e → start k ≡ ρ k) → In result e ⊎ In result (records xs) → Ends m ins ρ f xs result (run m ins result xs start (gather xs f))
-  ends e [] o solves start agree (inl old) = goes (λ r i s. absurd s) (ap Code (agree result old))
+  ends e [] o solves start agree (inl old) = goes (λ r i s. absurd s) (ap Ok (agree result old))
   ends e [] o solves start agree (inr new) = absurd new
   ends e (x ∷ xs) o solves start agree there = go (step m (value ins ρ) x.what (f x.at)) refl (λ v p. ends (x.at ∷ e) xs o.4 (each_tail x xs solves) (put start x.at v) (put_agrees e start ρ x.at v agree p o.2) (in_onwards result e x xs there))
     where
@@ -79,12 +77,12 @@ module _ (m : Model) (n : ℕ) (ins : List ℕ) (ρ : Env) (f : ℕ → ℕ) (re
       after s q = run_next m ins result x xs start f ∙ ap (λ z. and_then z (λ v. run m ins result xs (put start x.at v) (gather xs f))) (first ∙ q)
 
       go : (s : Outcome) → step m (value ins ρ) x.what (f x.at) ≡ s → ((v : ℕ) → v ≡ ρ x.at → Ends m ins ρ f xs result (run m ins result xs (put start x.at v) (gather xs f))) → Ends m ins ρ f (x ∷ xs) result (run m ins result (x ∷ xs) start (gather (x ∷ xs) f))
-      go Trap q rest = traps x.at x.what (inl (refl, refl)) q (after Trap q)
-      go (Code v) q rest =
+      go trap q rest = traps x.at x.what (inl (refl, refl)) q (after trap q)
+      go (Ok v) q rest =
           let is : ρ x.at ≡ v = each_head x xs solves ∙ ap code_of q in
           elim (rest v (sym is)) [
-            | goes all end ↦ goes (each_cons (λ r i. step m (value ins ρ) i (f r) ≡ Code (ρ r)) x xs (q ∙ ap Code (sym is)) all) (after (Code v) q ∙ end)
-            | traps r i s t end ↦ traps r i (inr s) t (after (Code v) q ∙ end)
+            | goes all end ↦ goes (each_cons (λ r i. step m (value ins ρ) i (f r) ≡ Ok (ρ r)) x xs (q ∙ ap Ok (sym is)) all) (after (Ok v) q ∙ end)
+            | traps r i s t end ↦ traps r i (inr s) t (after (Ok v) q ∙ end)
           ]
 
 module _ (m : Model) (law : Lawful m) (n : ℕ) (ins : List ℕ) (codes : All (λ c. c < m.size) ins) where

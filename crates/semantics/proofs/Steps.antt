@@ -1,20 +1,18 @@
 -- What one instruction gives where its operands agree, or refine. Assumes nothing.
-use Rattle.std.proofs.Common.{◌≡◌, ℕ, ◌<◌, Bool, true, false, cond, T, sym, refl, ap, ◌∙◌, subst, arith}
+use Rattle.std.proofs.Common.{◌≡◌, ℕ, ◌<◌, Bool, true, false, cond, T, sym, refl, ap, ◌∙◌, subst, arith, Ok}
 use mathlib.Core.Path.{subst⁻¹}
-use Rattle.domain.specs.Model.{Model, Lawful, OutcomeRefines}
+use Rattle.domain.specs.Model.{Model, Lawful, OutcomeRefines, Outcome, trap}
 use Rattle.semantics.specs.Programs.{Kind, binary, copying, freezing, selecting, kind, pick, step_of, step, reads_of, reads, All}
 use Rattle.semantics.specs.Rules.{Match, Agrees, Agree, Alike}
 use Rattle.semantics.specs.declared.Operand.{Operand}
 use Rattle.semantics.specs.declared.Instruction.{Instruction}
-use Rattle.domain.specs.declared.Outcome.{Outcome}
-use Rattle.domain.specs.declared.Outcome.TheVariants.{Code, Trap}
 use Rattle.domain.specs.declared.Truth.{Truth}
 use Rattle.domain.specs.declared.Truth.TheVariants.{Yes, No, Neither}
 
 -- the value that an outcome leaves in its record, where a trap counts as 0
 abbrev pub code_of : Outcome → ℕ
-code_of (Code v) = v
-code_of Trap = 0
+code_of (Ok v) = v
+code_of trap = 0
 
 -- instructions that agree give the same
 agrees_of : (k : Kind) (m : Model) (w : Match) (u v : Operand → ℕ) (s i : Instruction) (c : ℕ) → i.operation ≡ s.operation → i.marks ≡ s.marks → Agree w (reads_of k s) (reads_of k i) → All (λ o. (o' : Operand) → Agrees w o o' → u o' ≡ v o) (reads_of k s) → step_of k m u i c ≡ step_of k m v s c
@@ -22,13 +20,13 @@ agrees_of binary m w u v s i c e f a h =
     let p = h.0 i.first a.0 in
     let q = h.1.0 i.second a.1.0 in
     λ j. m.compute (e j) (f j).bits (p j) (q j)
-agrees_of copying m w u v s i c e f a h = ap Code (h.0 i.first a.0)
-agrees_of freezing m w u v s i c e f a h = ap (λ x. Code (cond (m.settled x) x c)) (h.0 i.first a.0)
+agrees_of copying m w u v s i c e f a h = ap Ok (h.0 i.first a.0)
+agrees_of freezing m w u v s i c e f a h = ap (λ x. Ok (cond (m.settled x) x c)) (h.0 i.first a.0)
 agrees_of selecting m w u v s i c e f a h =
     let p = h.0 i.first a.0 in
     let q = h.1.0 i.second a.1.0 in
     let t = h.1.1.0 i.third a.1.1.0 in
-    λ j. Code (pick (m.truth (p j)) (q j) (t j) m.worst)
+    λ j. Ok (pick (m.truth (p j)) (q j) (t j) m.worst)
 
 pub step_agrees : (m : Model) (w : Match) (u v : Operand → ℕ) (s i : Instruction) (c : ℕ) → Alike w s i → All (λ o. (o' : Operand) → Agrees w o o' → u o' ≡ v o) (reads s) → step m u i c ≡ step m v s c
 step_agrees m w u v s i c (e, f, a) h =
@@ -38,9 +36,9 @@ step_agrees m w u v s i c (e, f, a) h =
 -- one instruction at equal operands
 same_of : (k : Kind) (m : Model) (u v : Operand → ℕ) (i : Instruction) (c : ℕ) → All (λ o. u o ≡ v o) (reads_of k i) → step_of k m u i c ≡ step_of k m v i c
 same_of binary m u v i c h = λ j. m.compute i.operation i.marks.bits (h.0 j) (h.1.0 j)
-same_of copying m u v i c h = ap Code h.0
-same_of freezing m u v i c h = ap (λ x. Code (cond (m.settled x) x c)) h.0
-same_of selecting m u v i c h = λ j. Code (pick (m.truth (h.0 j)) (h.1.0 j) (h.1.1.0 j) m.worst)
+same_of copying m u v i c h = ap Ok h.0
+same_of freezing m u v i c h = ap (λ x. Ok (cond (m.settled x) x c)) h.0
+same_of selecting m u v i c h = λ j. Ok (pick (m.truth (h.0 j)) (h.1.0 j) (h.1.1.0 j) m.worst)
 
 pub step_same : (m : Model) (u v : Operand → ℕ) (i : Instruction) (c : ℕ) → All (λ o. u o ≡ v o) (reads i) → step m u i c ≡ step m v i c
 step_same m u v i c h = same_of (kind i.operation) m u v i c h
@@ -63,9 +61,9 @@ follows_of binary m u v i c d s f h = same_of binary m u v i c h
 follows_of copying m u v i c d s f h = same_of copying m u v i c h
 follows_of freezing m u v i c d s f h = go (m.settled (u i.first)) (f (frozen m (u i.first) c s)) ∙ same_of freezing m u v i d h
   where
-    go : (b : Bool) → d ≡ cond b (u i.first) c → Code (cond b (u i.first) c) ≡ Code (cond b (u i.first) d)
+    go : (b : Bool) → d ≡ cond b (u i.first) c → ◌≡◌ {A = Outcome} (Ok (cond b (u i.first) c)) (Ok (cond b (u i.first) d))
     go true e = refl
-    go false e = ap Code (sym e)
+    go false e = ap Ok (sym e)
 follows_of selecting m u v i c d s f h = same_of selecting m u v i c h
 
 pub step_follows : (m : Model) (u v : Operand → ℕ) (i : Instruction) (c d : ℕ) → T (m.settled c) → Follows m (step m u i c) d → All (λ o. u o ≡ v o) (reads i) → step m u i c ≡ step m v i d
@@ -105,9 +103,9 @@ module _ (m : Model) (law : Lawful m) where
   pub step_mono : (u v : Operand → ℕ) (i : Instruction) (c d : ℕ) → T (m.settled c) → Follows m (step m u i c) d → All (λ o. T (m.refines (u o) (v o))) (reads i) → OutcomeRefines m (step m u i c) (step m v i d)
   step_mono u v i c d s f h = mono_of (kind i.operation) u v i c d s f h
 
-  code_of_compute : (o : Outcome) → ((v : ℕ) → o ≡ Code v → v < m.size) → code_of o < m.size
-  code_of_compute (Code v) h = h v refl
-  code_of_compute Trap h = omega (arith, law.least_size)
+  code_of_compute : (o : Outcome) → ((v : ℕ) → o ≡ Ok v → v < m.size) → code_of o < m.size
+  code_of_compute (Ok v) h = h v refl
+  code_of_compute trap h = omega (arith, law.least_size)
 
   codes_of : (k : Kind) (u : Operand → ℕ) (i : Instruction) (c : ℕ) → T (m.settled c) → All (λ o. u o < m.size) (reads_of k i) → code_of (step_of k m u i c) < m.size
   codes_of binary u i c s h = code_of_compute _ (law.compute_code i.operation i.marks.bits (u i.first) (u i.second))

@@ -1,11 +1,9 @@
 -- The outcome of the new program refines that of the old one beside it, if the target's refines the source's. Assumes nothing.
-use Rattle.std.proofs.Common.{◌≡◌, ℕ, ◌<◌, T, List, [], length, get_or, sym, ◌∙◌, subst₂, inr, ⊎_elim, arith}
+use Rattle.std.proofs.Common.{◌≡◌, ℕ, ◌<◌, T, List, [], length, get_or, sym, ◌∙◌, subst₂, inr, ⊎_elim, arith, Ok}
 use mathlib.Core.Path.{subst⁻¹}
-use Rattle.domain.specs.Model.{Model, Lawful, OutcomeRefines}
+use Rattle.domain.specs.Model.{Model, Lawful, OutcomeRefines, Outcome, trap}
 use Rattle.semantics.specs.Programs.{Env, value, step, nothing_yet, outcome, All}
 use Rattle.semantics.specs.Rules.{target_of, source_of, Match, Matched}
-use Rattle.domain.specs.declared.Outcome.{Outcome}
-use Rattle.domain.specs.declared.Outcome.TheVariants.{Code, Trap}
 use Rattle.semantics.proofs.Members.{not_in, Each}
 use Rattle.semantics.proofs.Choices.{gather}
 use Rattle.semantics.proofs.Solutions.{Ends, goes, traps, ends}
@@ -17,11 +15,11 @@ use Rattle.semantics.proofs.Rewritten.{last_home, ordered_new, has_result_new}
 use Rattle.semantics.proofs.Beside.{Beside, variable_same, refined, kept_goes}
 
 -- everything refines a trap
-below_trap : (m : Model) (o : Outcome) → OutcomeRefines m o Trap
-below_trap m (Code v) = tt
-below_trap m Trap = tt
+below_trap : (m : Model) (o : Outcome) → OutcomeRefines m o trap
+below_trap m (Ok v) = tt
+below_trap m trap = tt
 
-code_is_no_trap : (o : Outcome) (v : ℕ) → o ≡ Code v → o ≡ Trap → ⊥
+code_is_no_trap : (o : Outcome) (v : ℕ) → o ≡ Ok v → o ≡ trap → ⊥
 code_is_no_trap o v e t = let z : ◌≡◌ {A = ℕ} 0 1 = cc in omega arith
 
 -- the match of the target in the new body
@@ -70,18 +68,18 @@ module _ {m : Model} {c : Fitting m} {ins : List ℕ} {f : ℕ → ℕ} {ρ : En
       nothing_yet (λ k h. absurd h) (inr side.has_result)
 
   -- where the old program goes through, so does the source
-  source_goes : Each c.old.body (λ q i. step m (value ins σ) i (g q) ≡ Code (σ q)) → Each (sources c) (λ j s. step m (value (vars c ins ρ) (λ j. σ (c.match.record_of j))) s (g (c.match.record_of j)) ≡ Trap → ⊥)
-  source_goes all j s there trap =
+  source_goes : Each c.old.body (λ q i. step m (value ins σ) i (g q) ≡ Ok (σ q)) → Each (sources c) (λ j s. step m (value (vars c ins ρ) (λ j. σ (c.match.record_of j))) s (g (c.match.record_of j)) ≡ trap → ⊥)
+  source_goes all j s there ends =
       let (i, stands, alike) = source_matched c j s there in
       let same = matched_step m c.match ins σ c.rule.variables (vars c ins ρ) var_old (sources c) c.made.source_formed.ordered j s there i alike (g (c.match.record_of j)) in
-      code_is_no_trap _ _ (all (c.match.record_of j) i stands) (same ∙ trap)
+      code_is_no_trap _ _ (all (c.match.record_of j) i stands) (same ∙ ends)
 
   -- where the target goes through, so does the block
-  block_goes : Each (targets c) (λ j t. step m (value (vars c ins ρ) (λ j. ρ (home_of c j))) t (f (home_of c j)) ≡ Code (ρ (home_of c j))) → Each (new_block c) (λ q i. step m (value ins ρ) i (f q) ≡ Trap → ⊥)
-  block_goes all q i s trap =
+  block_goes : Each (targets c) (λ j t. step m (value (vars c ins ρ) (λ j. ρ (home_of c j))) t (f (home_of c j)) ≡ Ok (ρ (home_of c j))) → Each (new_block c) (λ q i. step m (value ins ρ) i (f q) ≡ trap → ⊥)
+  block_goes all q i s ends =
       let (j, t, there, e, alike) = home_stands c.match (home_of c) (targets c) q i s in
       let same = matched_step m (moves c) ins ρ c.rule.variables (vars c ins ρ) var_new (targets c) c.made.target_formed.ordered j t there i alike (f (home_of c j)) in
-      code_is_no_trap _ _ (same ∙ all j t there) (subst⁻¹ (λ z. step m (value ins ρ) i (f z) ≡ Trap) e trap)
+      code_is_no_trap _ _ (same ∙ all j t there) (subst⁻¹ (λ z. step m (value ins ρ) i (f z) ≡ trap) e ends)
 
   -- the new outcome refines the old one, if the target's refines the source's
   pub refines_whole : Lawful m → All (λ d. d < m.size) ins → OutcomeRefines m (target_outcome c (vars c ins ρ) f) (source_outcome c (vars c ins ρ) g) →
@@ -99,7 +97,7 @@ module _ {m : Model} {c : Fitting m} {ins : List ℕ} {f : ℕ → ℕ} {ρ : En
           OutcomeRefines m (outcome m (new c) ins (gather (new c).body f)) (outcome m c.old ins (gather c.old.body g))
       go (traps q i s t e) source target whole = subst⁻¹ (OutcomeRefines m (outcome m (new c) ins (gather (new c).body f))) e (below_trap m _)
       go (goes all e) (traps j s there t e1) target whole = absurd (source_goes all j s there t)
-      go (goes all e) (goes all1 e1) (traps j t there trap e2) whole = absurd (subst₂ (OutcomeRefines m) e2 e1 sides)
+      go (goes all e) (goes all1 e1) (traps j t there ends e2) whole = absurd (subst₂ (OutcomeRefines m) e2 e1 sides)
       go (goes all e) (goes all1 e1) (goes all2 e2) whole =
           elim whole [
             | traps q i s t e3 ↦ absurd (⊎_elim (λ k. kept_goes b law codes all met q i k.0 k.1 t) (λ new. block_goes all2 q i new t) (spliced_cases (gone c) c.at (new_block c) c.old.body q i s))

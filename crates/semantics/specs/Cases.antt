@@ -1,11 +1,9 @@
 -- The cases of a rule in their order, and the first that refutes. Assumes nothing.
-use Rattle.std.specs.Prelude.{◌≡◌, ℕ, zero, suc, ◌+◌, ◌*◌, ◌/◌, ◌%◌, ◌^◌, ◌<◌, Bool, true, false, cond, ◌⊎◌, ◌↔◌, List, [], ◌∷◌, ◌++◌, map, length, take, drop, replicate, Some, None, Option, slice_index, slice_index_or}
-use Rattle.domain.specs.Model.{Model}
+use Rattle.std.specs.Prelude.{◌≡◌, ℕ, zero, suc, ◌+◌, ◌*◌, ◌/◌, ◌%◌, ◌^◌, ◌<◌, Bool, true, false, cond, ◌⊎◌, ◌↔◌, List, [], ◌∷◌, ◌++◌, map, length, take, drop, replicate, Some, None, Option, slice_index, slice_index_or, Ok}
+use Rattle.domain.specs.Model.{Model, Outcome, trap}
 use Rattle.semantics.specs.Programs.{Refines, Inputs, Choices, outcome, freezes}
 use Rattle.semantics.specs.Rules.{Rule, numbered, source_of, target_of, Refutes}
 use Rattle.semantics.specs.declared.Instruction.{Instruction}
-use Rattle.domain.specs.declared.Outcome.{Outcome}
-use Rattle.domain.specs.declared.Outcome.TheVariants.{Code, Trap}
 
 -- n numbers from k on
 abbrev pub from : ℕ → ℕ → List ℕ
@@ -60,10 +58,10 @@ abbrev pub source_choices : Model → Rule → List (List ℕ)
 source_choices m r = tuples (replicate (freezes_in r.source) (settled_codes m))
 
 abbrev pub outcome_refining : Model → Outcome → Outcome → Bool
-outcome_refining m (Code a) (Code b) = m.refines a b
-outcome_refining m (Code a) Trap = true
-outcome_refining m Trap (Code b) = false
-outcome_refining m Trap Trap = true
+outcome_refining m (Ok a) (Ok b) = m.refines a b
+outcome_refining m (Ok a) trap = true
+outcome_refining m trap (Ok b) = false
+outcome_refining m trap trap = true
 
 abbrev pub none : {A : Type 0} → (A → Bool) → List A → Bool
 none t [] = true

@@ -1,10 +1,8 @@
 -- Programs, their outcomes, and when one refines another. Assumes nothing.
-use Rattle.std.specs.Prelude.{◌≡◌, ℕ, suc, ◌<◌, ◌≤◌, Bool, true, false, cond, not, ◌&&◌, ◌||◌, T, List, [], ◌∷◌, map, length, ◌==◌, nat_lt, slice_index}
-use Rattle.domain.specs.Model.{Model, OutcomeRefines}
+use Rattle.std.specs.Prelude.{◌≡◌, ℕ, suc, ◌<◌, ◌≤◌, Bool, true, false, cond, not, ◌&&◌, ◌||◌, T, List, [], ◌∷◌, map, length, ◌==◌, nat_lt, slice_index, Ok}
+use Rattle.domain.specs.Model.{Model, OutcomeRefines, Outcome, trap}
 use Rattle.vocabulary.specs.declared.operation.Operation.{Operation}
 use Rattle.vocabulary.specs.declared.operation.Operation.TheVariants.{Add, Sub, Mul, Shl, Lshr, Ashr, Udiv, Urem, Sdiv, Srem, And, Or, Xor, Eq, Ne, Ult, Ule, Slt, Sle, Copy, Freeze, Select}
-use Rattle.domain.specs.declared.Outcome.{Outcome}
-use Rattle.domain.specs.declared.Outcome.TheVariants.{Code, Trap}
 use Rattle.domain.specs.declared.Truth.{Truth}
 use Rattle.domain.specs.declared.Truth.TheVariants.{Yes, No, Neither}
 use Rattle.semantics.specs.declared.Operand.{Operand}
@@ -67,9 +65,9 @@ pick Neither a b w = w
 
 abbrev pub step_of : Kind → Model → (Operand → ℕ) → Instruction → ℕ → Outcome
 step_of binary m val i c = m.compute i.operation i.marks.bits (val i.first) (val i.second)
-step_of copying m val i c = Code (val i.first)
-step_of freezing m val i c = Code (cond (m.settled (val i.first)) (val i.first) c)
-step_of selecting m val i c = Code (pick (m.truth (val i.first)) (val i.second) (val i.third) m.worst)
+step_of copying m val i c = Ok (val i.first)
+step_of freezing m val i c = Ok (cond (m.settled (val i.first)) (val i.first) c)
+step_of selecting m val i c = Ok (pick (m.truth (val i.first)) (val i.second) (val i.third) m.worst)
 
 -- what one instruction gives, where `c` is the choice at hand
 abbrev pub step : Model → (Operand → ℕ) → Instruction → ℕ → Outcome
@@ -98,12 +96,12 @@ left i cs = cond (is_freeze i) (tail cs) cs
 
 -- a trap ends the run
 abbrev pub and_then : Outcome → (ℕ → Outcome) → Outcome
-and_then (Code v) k = k v
-and_then Trap k = Trap
+and_then (Ok v) k = k v
+and_then trap k = trap
 
 -- a run of a body: the first trap makes the whole outcome a trap, and otherwise the result's value is the outcome
 abbrev pub run : Model → List ℕ → ℕ → List Placed → Env → List ℕ → Outcome
-run m ins result [] ρ cs = Code (ρ result)
+run m ins result [] ρ cs = Ok (ρ result)
 run m ins result (x ∷ xs) ρ cs = and_then (step m (value ins ρ) x.what (head cs)) (λ v. run m ins result xs (put ρ x.at v) (left x.what cs))
 
 -- no record has a value before the run

@@ -1,8 +1,7 @@
 -- The definitions at work, over the house pile of width 2: the mistakes that tempt, and each refusal of a rewriting. Assumes nothing.
-use Rattle.std.specs.Prelude.{◌≡◌, ℕ, true, List, [], ◌∷◌, replicate, Some, None}
+use Rattle.std.specs.Prelude.{◌≡◌, ℕ, true, List, [], ◌∷◌, replicate, Some, None, Ok}
 use Rattle.vocabulary.specs.declared.operation.Operation.{Operation}
 use Rattle.vocabulary.specs.declared.operation.Operation.TheVariants.{Add, Sub, Copy, Freeze}
-use Rattle.domain.specs.declared.Outcome.TheVariants.{Code}
 use Rattle.domain.specs.Model.{Model}
 use Rattle.words.specs.Words.{words}
 use Rattle.layers.specs.Layers.{poisoned}
@@ -89,8 +88,8 @@ pub record Samples : Type 0 where
   -- a sound rule whose two source freezes must not match one freeze (17): its target could then give 1 at poison, where the program gives 0
   pub swap_sound : first_refuting house2 swapped ≡ None
   pub one_freeze : fit difference swapped 2 ≡ unfit 17
-  pub swap_gives : outcome house2 (target_of swapped) (4 ∷ []) (0 ∷ 1 ∷ []) ≡ Code 1
-  pub always_zero : all (λ c. outcome_refining house2 (outcome house2 difference (4 ∷ []) (c ∷ [])) (Code 0)) (settled_codes house2) ≡ true
+  pub swap_gives : outcome house2 (target_of swapped) (4 ∷ []) (0 ∷ 1 ∷ []) ≡ Ok 1
+  pub always_zero : all (λ c. outcome_refining house2 (outcome house2 difference (4 ∷ []) (c ∷ [])) (Ok 0)) (settled_codes house2) ≡ true
   -- a variable does not take a removed instruction: 17
   pub on_removed : fit (program 1 (plain Sub (Constant 0) (Input 0) ∷ plain Add (Record 1) (Record 1) ∷ []) 2) negated 2 ≡ unfit 17
   -- a source name does not meet two instructions: 16

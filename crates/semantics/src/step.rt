@@ -41,9 +41,9 @@ pub fn step<D: Domain>(
 {
     let a = value(inputs, values, instruction.first);
     match instruction.operation {
-        Operation::Copy => Outcome::Code(a),
-        Operation::Freeze => Outcome::Code(if domain.settled(a) { a } else { choice }),
-        Operation::Select => Outcome::Code(match domain.truth(a) {
+        Operation::Copy => Ok(a),
+        Operation::Freeze => Ok(if domain.settled(a) { a } else { choice }),
+        Operation::Select => Ok(match domain.truth(a) {
             Truth::Yes => value(inputs, values, instruction.second),
             Truth::No => value(inputs, values, instruction.third),
             Truth::Neither => domain.worst(),

@@ -2,7 +2,7 @@
 // steps around the circle of codes, repeated subtraction, sign bits and bit columns in the place of exact integers.
 #![tactic(auto)]
 
-use domain::{Domain, Outcome};
+use domain::{Domain, Outcome, Trapped};
 use vocabulary::marks::Marks;
 use vocabulary::operation::{OPERATIONS, Operation};
 use words::Words;
@@ -254,8 +254,8 @@ mod tests {
 
     fn number(outcome: Outcome) -> u32 {
         match outcome {
-            Outcome::Code(code) => code as u32,
-            Outcome::Trap => TRAP,
+            Ok(code) => code as u32,
+            Err(Trapped) => TRAP,
         }
     }
 

@@ -1,5 +1,5 @@
 -- Words keep the laws of a domain.
-use Rattle.std.specs.Prelude.{◌≡◌, ℕ, ◌/◌, ◌%◌, ◌^◌, ◌<◌, ◌≤◌, Bool, true, false, cond, not, ◌&&◌, ◌||◌, T, ◌⊎◌, pos, ◌+ℤ◌, ◌-ℤ◌, ◌*ℤ◌, Some, None, ◌==◌, ◌≢◌, int_div, int_le, int_lt, int_rem, nat_le, nat_lt, refl}
+use Rattle.std.specs.Prelude.{◌≡◌, ℕ, ◌/◌, ◌%◌, ◌^◌, ◌<◌, ◌≤◌, Bool, true, false, cond, not, ◌&&◌, ◌||◌, T, ◌⊎◌, pos, ◌+ℤ◌, ◌-ℤ◌, ◌*ℤ◌, Some, None, ◌==◌, ◌≢◌, int_div, int_le, int_lt, int_rem, nat_le, nat_lt, refl, Ok}
 use Rattle.std.proofs.Common.{ap, subst, ◌∙◌, ⊎_elim, div-le_self, arith, pow_pos}
 use Rattle.std.proofs.Math.Nat.{mod-le}
 use Rattle.std.specs.Int.Bits.{and_lt}
@@ -8,10 +8,8 @@ use Rattle.std.specs.Int.Signed.{shr_z}
 use Rattle.std.proofs.lemmas.Bool.{and_parts, and_from, and_left, and_right, eqb-true, eq-eqb, ltb-true, lt-ltb, le-ltb, cond-false, cond_both}
 use Rattle.vocabulary.specs.declared.operation.Operation.{Operation}
 use Rattle.vocabulary.specs.declared.operation.Operation.TheVariants.{Add, Sub, Mul, Shl, Lshr, Ashr, Udiv, Urem, Sdiv, Srem, And, Or, Xor, Eq, Ne, Ult, Ule, Slt, Sle, Copy, Freeze, Select}
-use Rattle.domain.specs.declared.Outcome.{Outcome}
-use Rattle.domain.specs.declared.Outcome.TheVariants.{Code, Trap}
 use Rattle.domain.specs.declared.Truth.TheVariants.{Yes, No, Neither}
-use Rattle.domain.specs.Model.{Lawful, Outside, Within, OutcomeRefines}
+use Rattle.domain.specs.Model.{Lawful, Outside, Within, OutcomeRefines, Outcome, trap}
 use Rattle.words.specs.Words.{codes_of, signed, residue, least_by_minus_one, flag, result_of, breaks, is_code, words}
 use Rattle.domain.proofs.Sets.{within_self}
 use Rattle.words.specs.Powers.{few_codes, some_codes}
@@ -20,13 +18,13 @@ use Rattle.domain.proofs.Outcomes.{holds, shown}
 
 -- an outcome is a trap or a code below a bound
 abbrev Below : ℕ → Outcome → Type 0
-Below n (Code c) = c < n
-Below n Trap = Unit {0}
+Below n (Ok c) = c < n
+Below n trap = Unit {0}
 
-below_code : (n : ℕ) (o : Outcome) (c : ℕ) → Below n o → o ≡ Code c → c < n
+below_code : (n : ℕ) (o : Outcome) (c : ℕ) → Below n o → o ≡ Ok c → c < n
 below_code n o c h e = subst (Below n) e h
 
-below_unless : (n : ℕ) (s : Bool) (o : Outcome) → Below n o → Below n (cond s Trap o)
+below_unless : (n : ℕ) (s : Bool) (o : Outcome) → Below n o → Below n (cond s trap o)
 below_unless n true o h = tt
 below_unless n false o h = h
 
@@ -42,10 +40,10 @@ result_code w low Mul a b p q = residue_code w (pos a *ℤ pos b)
 result_code w low Shl a b p q = cond_both (nat_lt b w) (residue w (pos a *ℤ pos (2 ^ b))) 0 (λ x. x < codes_of w) (λ _. residue_code w (pos a *ℤ pos (2 ^ b))) (λ _. pow_pos w)
 result_code w low Lshr a b p q = let h = div-le_self a (2 ^ b) in omega arith
 result_code w low Ashr a b p q = residue_code w (shr_z (signed w a) (2 ^ b))
-result_code w low Udiv a b p q = below_unless (codes_of w) (b == 0) (Code (a / b)) (let h = div-le_self a b in omega arith)
-result_code w low Urem a b p q = below_unless (codes_of w) (b == 0) (Code (a % b)) (let h = mod-le a b in omega arith)
-result_code w low Sdiv a b p q = below_unless (codes_of w) (b == 0 || least_by_minus_one w a b) (Code (residue w (int_div (signed w a) (signed w b)))) (residue_code w (int_div (signed w a) (signed w b)))
-result_code w low Srem a b p q = below_unless (codes_of w) (b == 0) (Code (residue w (int_rem (signed w a) (signed w b)))) (residue_code w (int_rem (signed w a) (signed w b)))
+result_code w low Udiv a b p q = below_unless (codes_of w) (b == 0) (Ok (a / b)) (let h = div-le_self a b in omega arith)
+result_code w low Urem a b p q = below_unless (codes_of w) (b == 0) (Ok (a % b)) (let h = mod-le a b in omega arith)
+result_code w low Sdiv a b p q = below_unless (codes_of w) (b == 0 || least_by_minus_one w a b) (Ok (residue w (int_div (signed w a) (signed w b)))) (residue_code w (int_div (signed w a) (signed w b)))
+result_code w low Srem a b p q = below_unless (codes_of w) (b == 0) (Ok (residue w (int_rem (signed w a) (signed w b)))) (residue_code w (int_rem (signed w a) (signed w b)))
 result_code w low And a b p q = and_lt w a b p q
 result_code w low Or a b p q = or_lt w a b p q
 result_code w low Xor a b p q = xor_lt w a b p q
@@ -59,7 +57,7 @@ result_code w low Copy a b p q = tt
 result_code w low Freeze a b p q = tt
 result_code w low Select a b p q = tt
 
-guarded_code : (n : ℕ) (s : Bool) (o : Outcome) → (s ≡ true → Below n o) → Below n (cond s o Trap)
+guarded_code : (n : ℕ) (s : Bool) (o : Outcome) → (s ≡ true → Below n o) → Below n (cond s o trap)
 guarded_code n true o h = h refl
 guarded_code n false o h = tt
 
@@ -76,8 +74,8 @@ itself : (w a : ℕ) → a < codes_of w → T ((words w).refines a a)
 itself w a h = shown _ (and_from (a == a) (is_code w a) (eq-eqb a a refl) (lt-ltb a (codes_of w) h))
 
 outcome_itself : (w : ℕ) (o : Outcome) → Below (codes_of w) o → OutcomeRefines (words w) o o
-outcome_itself w (Code c) h = itself w c h
-outcome_itself w Trap h = tt
+outcome_itself w (Ok c) h = itself w c h
+outcome_itself w trap h = tt
 
 -- what holds of equal operands holds where they refine
 both_same : (w a b a2 b2 : ℕ) (P : ℕ → ℕ → Type 0) → T ((words w).refines a a2) → T ((words w).refines b b2) → P a b → P a2 b2
@@ -93,7 +91,7 @@ no_neither true false e f = let z : ◌≡◌ {A = ℕ} 0 1 = cc in omega arith
 no_neither false t e f = let z : ◌≡◌ {A = ℕ} 0 1 = cc in omega arith
 
 -- copy, freeze and select are not computed
-other_result : (w : ℕ) (op : Operation) (a b : ℕ) → (op ≡ Copy) ⊎ ((op ≡ Freeze) ⊎ (op ≡ Select)) → result_of w op a b ≡ Trap
+other_result : (w : ℕ) (op : Operation) (a b : ℕ) → (op ≡ Copy) ⊎ ((op ≡ Freeze) ⊎ (op ≡ Select)) → result_of w op a b ≡ trap
 other_result w op a b o = ⊎_elim (λ e. ap (λ x. result_of w x a b) e) (⊎_elim (λ e. ap (λ x. result_of w x a b) e) (λ e. ap (λ x. result_of w x a b) e)) o
 
 other_breaks : (w : ℕ) (op : Operation) (a b : ℕ) → (op ≡ Copy) ⊎ ((op ≡ Freeze) ⊎ (op ≡ Select)) → breaks w op a b ≡ 0
@@ -102,10 +100,10 @@ other_breaks w op a b o = ⊎_elim (λ e. ap (λ x. breaks w x a b) e) (⊎_elim
 not_both : (w a b : ℕ) → (codes_of w ≤ a) ⊎ (codes_of w ≤ b) → (is_code w a && is_code w b) ≡ false
 not_both w a b h = ⊎_elim (λ p. and_left _ _ (le-ltb a (codes_of w) p)) (λ p. and_right (is_code w a) _ (le-ltb b (codes_of w) p)) h
 
-words_trap : (w : ℕ) (op : Operation) (marks a b : ℕ) → Outside (words w) op a b → (words w).compute op marks a b ≡ Trap
+words_trap : (w : ℕ) (op : Operation) (marks a b : ℕ) → Outside (words w) op a b → (words w).compute op marks a b ≡ trap
 words_trap w op marks a b o =
-    ⊎_elim (λ h. cond-false (is_code w a && is_code w b) (result_of w op a b) Trap (not_both w a b h))
-    (λ h. cond_both (is_code w a && is_code w b) (result_of w op a b) Trap (λ x. x ≡ Trap) (λ _. other_result w op a b h) (λ _. refl)) o
+    ⊎_elim (λ h. cond-false (is_code w a && is_code w b) (result_of w op a b) trap (not_both w a b h))
+    (λ h. cond_both (is_code w a && is_code w b) (result_of w op a b) trap (λ x. x ≡ trap) (λ _. other_result w op a b h) (λ _. refl)) o
 
 words_break_none : (w : ℕ) (op : Operation) (a b : ℕ) → Outside (words w) op a b → (words w).broken op a b ≡ 0
 words_break_none w op a b o =

@@ -1,12 +1,10 @@
 -- Words of a width from 1 to 8, by exact integers. Assumes nothing.
-use Rattle.std.specs.Prelude.{ℕ, ◌-◌, ◌/◌, ◌%◌, ◌^◌, Bool, true, false, cond, not, ◌&&◌, ◌||◌, ℤ, pos, negsuc, ◌+ℤ◌, ◌-ℤ◌, ◌*ℤ◌, neg_ℤ, Some, None, ◌==◌, bit_and, bit_or, bit_xor, int_div, int_le, int_lt, int_rem, nat_le, nat_lt, unsigned_abs}
+use Rattle.std.specs.Prelude.{ℕ, ◌-◌, ◌/◌, ◌%◌, ◌^◌, Bool, true, false, cond, not, ◌&&◌, ◌||◌, ℤ, pos, negsuc, ◌+ℤ◌, ◌-ℤ◌, ◌*ℤ◌, neg_ℤ, Some, None, ◌==◌, bit_and, bit_or, bit_xor, int_div, int_le, int_lt, int_rem, nat_le, nat_lt, unsigned_abs, Ok}
 use Rattle.std.specs.Int.Signed.{shr_z}
 use Rattle.vocabulary.specs.declared.operation.Operation.{Operation}
 use Rattle.vocabulary.specs.declared.operation.Operation.TheVariants.{Add, Sub, Mul, Shl, Lshr, Ashr, Udiv, Urem, Sdiv, Srem, And, Or, Xor, Eq, Ne, Ult, Ule, Slt, Sle, Copy, Freeze, Select}
-use Rattle.domain.specs.declared.Outcome.{Outcome}
-use Rattle.domain.specs.declared.Outcome.TheVariants.{Code, Trap}
 use Rattle.domain.specs.declared.Truth.TheVariants.{Yes, No, Neither}
-use Rattle.domain.specs.Model.{Model}
+use Rattle.domain.specs.Model.{Model, Outcome, trap}
 
 -- codes are 0 to 2^w - 1
 abbrev pub codes_of : ℕ → ℕ
@@ -46,33 +44,33 @@ least_by_minus_one w a b = a == least_of w && b == codes_of w - 1
 
 -- a comparison gives 1 or 0
 abbrev pub flag : Bool → Outcome
-flag true = Code 1
-flag false = Code 0
+flag true = Ok 1
+flag false = Ok 0
 
 -- the outcome of an operation at two codes of the width
 abbrev pub result_of : ℕ → Operation → ℕ → ℕ → Outcome
-result_of w Add a b = Code (residue w (pos a +ℤ pos b))
-result_of w Sub a b = Code (residue w (pos a -ℤ pos b))
-result_of w Mul a b = Code (residue w (pos a *ℤ pos b))
-result_of w Shl a b = Code (cond (nat_lt b w) (residue w (pos a *ℤ pos (2 ^ b))) 0)
-result_of w Lshr a b = Code (a / 2 ^ b)
-result_of w Ashr a b = Code (residue w (shr_z (signed w a) (2 ^ b)))
-result_of w Udiv a b = cond (b == 0) Trap (Code (a / b))
-result_of w Urem a b = cond (b == 0) Trap (Code (a % b))
-result_of w Sdiv a b = cond (b == 0 || least_by_minus_one w a b) Trap (Code (residue w (int_div (signed w a) (signed w b))))
-result_of w Srem a b = cond (b == 0) Trap (Code (residue w (int_rem (signed w a) (signed w b))))
-result_of w And a b = Code (bit_and a b)
-result_of w Or a b = Code (bit_or a b)
-result_of w Xor a b = Code (bit_xor a b)
+result_of w Add a b = Ok (residue w (pos a +ℤ pos b))
+result_of w Sub a b = Ok (residue w (pos a -ℤ pos b))
+result_of w Mul a b = Ok (residue w (pos a *ℤ pos b))
+result_of w Shl a b = Ok (cond (nat_lt b w) (residue w (pos a *ℤ pos (2 ^ b))) 0)
+result_of w Lshr a b = Ok (a / 2 ^ b)
+result_of w Ashr a b = Ok (residue w (shr_z (signed w a) (2 ^ b)))
+result_of w Udiv a b = cond (b == 0) trap (Ok (a / b))
+result_of w Urem a b = cond (b == 0) trap (Ok (a % b))
+result_of w Sdiv a b = cond (b == 0 || least_by_minus_one w a b) trap (Ok (residue w (int_div (signed w a) (signed w b))))
+result_of w Srem a b = cond (b == 0) trap (Ok (residue w (int_rem (signed w a) (signed w b))))
+result_of w And a b = Ok (bit_and a b)
+result_of w Or a b = Ok (bit_or a b)
+result_of w Xor a b = Ok (bit_xor a b)
 result_of w Eq a b = flag (a == b)
 result_of w Ne a b = flag (not (a == b))
 result_of w Ult a b = flag (nat_lt a b)
 result_of w Ule a b = flag (nat_le a b)
 result_of w Slt a b = flag (int_lt (signed w a) (signed w b))
 result_of w Sle a b = flag (int_le (signed w a) (signed w b))
-result_of w Copy a b = Trap
-result_of w Freeze a b = Trap
-result_of w Select a b = Trap
+result_of w Copy a b = trap
+result_of w Freeze a b = trap
+result_of w Select a b = trap
 
 -- the marks that an operation breaks at two codes of the width: nuw 1, nsw 2, exact 4, range 8
 abbrev pub breaks : ℕ → Operation → ℕ → ℕ → ℕ
@@ -112,5 +110,5 @@ words w = record {
   truth = λ c. cond (is_code w c) (cond (c == 0) No Yes) Neither;
   worst = 0;
   broken = λ op a b. cond (is_code w a && is_code w b) (breaks w op a b) 0;
-  compute = λ op marks a b. cond (is_code w a && is_code w b) (result_of w op a b) Trap;
+  compute = λ op marks a b. cond (is_code w a && is_code w b) (result_of w op a b) trap;
 }

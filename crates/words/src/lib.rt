@@ -5,13 +5,13 @@ ghost use Rattle.std.specs.Prelude.{◌≡◌, ◌+◌, ◌/◌, ◌%◌, ◌^�
 ghost use Rattle.std.specs.Int.Signed.{shr_z};
 ghost use Rattle.domain.specs.declared.fault.DomainFault.TheVariants.{WrongWidth};
 ghost use Rattle.vocabulary.specs.declared.operation.Operation.TheVariants.{Shl, Lshr, Ashr, Udiv, Sdiv, Srem};
-ghost use Rattle.domain.specs.declared.Outcome.TheVariants.{Code, Trap};
+ghost use Rattle.domain.specs.Model.{trap};
 ghost use Rattle.words.specs.Arithmetic.{Exact};
 ghost use Rattle.words.specs.Words.{codes_of, least_of, is_code, signed, residue, in_unsigned, in_signed, overflow, least_by_minus_one, flag, result_of, breaks, words};
 ghost use Rattle.words.specs.WordLaws.{words_lawful};
 
 use domain::fault::DomainFault;
-use domain::{Domain, Outcome, Truth};
+use domain::{Domain, Outcome, Trapped, Truth};
 use exact::{difference, power, product, quotient, remainder, rest, shift_down, sum};
 use vocabulary::marks::Marks;
 use vocabulary::operation::Operation;
@@ -143,9 +143,9 @@ impl Words {
         ensures { result ≡ result_of self.width Sdiv a b }
     {
         if self.sdiv_traps(a, b) {
-            return Outcome::Trap;
+            return Err(Trapped);
         }
-        Outcome::Code(self.residue(quotient(self.signed(a), self.signed(b))))
+        Ok(self.residue(quotient(self.signed(a), self.signed(b))))
     }
 
     fn srem(self, a: u16, b: u16) -> Outcome
@@ -153,9 +153,9 @@ impl Words {
         ensures { result ≡ result_of self.width Srem a b }
     {
         if b == 0 {
-            return Outcome::Trap;
+            return Err(Trapped);
         }
-        Outcome::Code(self.residue(remainder(self.signed(a), self.signed(b))))
+        Ok(self.residue(remainder(self.signed(a), self.signed(b))))
     }
 
     // The outcome of an operation at two codes.
@@ -164,26 +164,26 @@ impl Words {
         ensures { result ≡ result_of self.width op a b }
     {
         match op {
-            Operation::Add => Outcome::Code(self.residue(sum(a as i32, b as i32))),
-            Operation::Sub => Outcome::Code(self.residue(difference(a as i32, b as i32))),
-            Operation::Mul => Outcome::Code(self.residue(product(a as i32, b as i32))),
-            Operation::Shl => Outcome::Code(self.shl(a, b)),
-            Operation::Lshr => Outcome::Code(lshr(a, b)),
-            Operation::Ashr => Outcome::Code(self.ashr(a, b)),
+            Operation::Add => Ok(self.residue(sum(a as i32, b as i32))),
+            Operation::Sub => Ok(self.residue(difference(a as i32, b as i32))),
+            Operation::Mul => Ok(self.residue(product(a as i32, b as i32))),
+            Operation::Shl => Ok(self.shl(a, b)),
+            Operation::Lshr => Ok(lshr(a, b)),
+            Operation::Ashr => Ok(self.ashr(a, b)),
             Operation::Udiv => udiv(a, b),
             Operation::Urem => urem(a, b),
             Operation::Sdiv => self.sdiv(a, b),
             Operation::Srem => self.srem(a, b),
-            Operation::And => Outcome::Code(a & b),
-            Operation::Or => Outcome::Code(a | b),
-            Operation::Xor => Outcome::Code(a ^ b),
+            Operation::And => Ok(a & b),
+            Operation::Or => Ok(a | b),
+            Operation::Xor => Ok(a ^ b),
             Operation::Eq => flag(a == b),
             Operation::Ne => flag(a != b),
             Operation::Ult => flag(a < b),
             Operation::Ule => flag(a <= b),
             Operation::Slt => flag(self.signed(a) < self.signed(b)),
             Operation::Sle => flag(self.signed(a) <= self.signed(b)),
-            Operation::Copy | Operation::Freeze | Operation::Select => Outcome::Trap,
+            Operation::Copy | Operation::Freeze | Operation::Select => Err(Trapped),
         }
     }
 
@@ -318,7 +318,7 @@ impl Domain for Words {
         if self.is_code(a) && self.is_code(b) {
             self.result(op, a, b)
         } else {
-            Outcome::Trap
+            Err(Trapped)
         }
     }
 }
@@ -331,31 +331,19 @@ fn lshr(a: u16, b: u16) -> u16
 }
 
 fn udiv(a: u16, b: u16) -> Outcome
-    ensures { result ≡ (if nat_eq b 0 then Trap else Code (a / b)) }
+    ensures { result ≡ (if nat_eq b 0 then trap else Ok (a / b)) }
 {
-    if b == 0 {
-        Outcome::Trap
-    } else {
-        Outcome::Code(a / b)
-    }
+    if b == 0 { Err(Trapped) } else { Ok(a / b) }
 }
 
 fn urem(a: u16, b: u16) -> Outcome
-    ensures { result ≡ (if nat_eq b 0 then Trap else Code (a % b)) }
+    ensures { result ≡ (if nat_eq b 0 then trap else Ok (a % b)) }
 {
-    if b == 0 {
-        Outcome::Trap
-    } else {
-        Outcome::Code(a % b)
-    }
+    if b == 0 { Err(Trapped) } else { Ok(a % b) }
 }
 
 fn flag(holds: bool) -> Outcome
     ensures { result ≡ flag holds }
 {
-    if holds {
-        Outcome::Code(1)
-    } else {
-        Outcome::Code(0)
-    }
+    if holds { Ok(1) } else { Ok(0) }
 }

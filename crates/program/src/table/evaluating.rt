@@ -56,13 +56,10 @@ impl Table {
         while at != 0 {
             let instruction = instruction_of(&self.records, at);
             let choice = at_or_zero(choices, used);
-            match step(domain, instruction, inputs, &values, choice) {
-                Outcome::Code(code) => values[at as usize] = code,
-                Outcome::Trap => return Outcome::Trap,
-            }
+            values[at as usize] = step(domain, instruction, inputs, &values, choice)?;
             used = used_after(choices, used, instruction);
             at = chain::next_of(&self.records, at);
         }
-        Outcome::Code(at_or_zero(&values, self.result as usize))
+        Ok(at_or_zero(&values, self.result as usize))
     }
 }
