@@ -1,4 +1,6 @@
 -- The refusals of a bench as faults, each by its number, its layer and its line. Assumes nothing.
+use Rattle.std.specs.Prelude.{codes}
+use Rattle.scan.specs.Pieces.{Bytes}
 use Rattle.program.specs.Faults.{fault_number}
 use Rattle.reader.specs.ReadFaults.{read_fault}
 use Rattle.text.specs.Faults.{Fault, Layer, text_layer, domain_layer, rule_layer, book_layer, program_layer, fault}
@@ -18,3 +20,11 @@ layer_seen Domain = domain_layer
 layer_seen Rule = rule_layer
 layer_seen Book = book_layer
 layer_seen Program = program_layer
+
+-- a layer as a refusal tells it
+abbrev pub layer_text : Layer → Bytes
+layer_text text_layer = codes "text"
+layer_text domain_layer = codes "domain"
+layer_text rule_layer = codes "rule"
+layer_text book_layer = codes "book"
+layer_text program_layer = codes "program"

@@ -1,10 +1,11 @@
 // What the calls of a bench refuse.
-ghost use Rattle.std.specs.Prelude.{◌≡◌};
+ghost use Rattle.std.specs.Prelude.{◌≡◌, Some};
 ghost use Rattle.bench.specs.declared.fault.BenchFault.TheVariants.{Reading, Evaluating};
-ghost use Rattle.bench.specs.Faults.{bench_fault, layer_seen};
+ghost use Rattle.bench.specs.Faults.{bench_fault, layer_seen, layer_text};
 
 use program::fault::EvaluateFault;
 use reader::fault::ReadFault;
+use std::fmt;
 
 #[derive(Clone, Copy, PartialEq, Debug)]
 pub enum BenchFault {
@@ -21,6 +22,21 @@ pub enum FaultLayer {
     Rule,
     Book,
     Program,
+}
+
+// As a refusal tells it.
+impl fmt::Display for FaultLayer {
+    ghost output = { λ layer. Some (layer_text (layer_seen layer)) };
+
+    fn fmt<W: fmt::Write>(&self, f: &mut fmt::Formatter<W>) -> fmt::Result {
+        f.write_str(match self {
+            FaultLayer::Text => "text",
+            FaultLayer::Domain => "domain",
+            FaultLayer::Rule => "rule",
+            FaultLayer::Book => "book",
+            FaultLayer::Program => "program",
+        })
+    }
 }
 
 impl From<ReadFault> for BenchFault {

@@ -72,8 +72,7 @@ mod tests {
 
     #[test]
     fn each_fault_is_told_with_its_line(rt: HostRuntime) -> Result<(), Fail> {
-        for i in 0..REFUSED.len() {
-            let (text, number, line) = REFUSED[i];
+        for (text, number, line) in REFUSED {
             refuses(&rt, text, number, line)?;
         }
         Ok(())

@@ -2,13 +2,13 @@
 use Rattle.std.proofs.Common.{◌≡◌, ℕ, ◌-◌, ◌≤◌, eqb, ◌⊎◌, List, [], ◌∷◌, length, sym, refl, ap, ◌∙◌, subst, inl, inr, ⊎_elim, arith}
 use Rattle.std.proofs.lemmas.Bool.{ne_eqb, eq-eqb, eqb-true, eqb-false, cond-true, cond-false, cond_both, cases_Bool}
 use Rattle.std.proofs.lemmas.List.{length-set, get_or-set_same, get_or-set_other}
-use Rattle.chain.specs.Chains.{Chained, Apart, Among, OthersStay, Misses, link, relink}
+use Rattle.chain.specs.Chains.{Chained, Apart, Among, OthersStay, Misses, Within, link, relink}
 use Rattle.chain.specs.Places.{put_before, put_behind, predecessor, Inserts}
 use Rattle.chain.proofs.Relinks.{stay, one_list, apart_among, clear_among, zero_apart}
 use Rattle.chain.proofs.Places.{apart_behind, behind_none}
 
 -- what the two changed links leave of a chain
-module _ (links : List ℕ) (place at : ℕ) (front : 1 ≤ place) (back : place ≤ length links) (low : 1 ≤ at) (high : at ≤ length links) (ne : place ≡ at → ⊥) where
+module _ (links : List ℕ) (place at : ℕ) (behind : Within links place) (within : Within links at) (ne : place ≡ at → ⊥) where
   abbrev after : List ℕ
   after = relink (relink links at (link links place)) place at
 
@@ -41,11 +41,11 @@ module _ (links : List ℕ) (place at : ℕ) (front : 1 ≤ place) (back : place
         ((λ same. ne (sym is ∙ same)), c.3),
         (
           subst (λ x. link after x ≡ at) (sym is) at_place,
-          low,
+          within.low,
           omega arith,
           a.1,
           subst (λ f. Chained after f ks) (sym (at_at ∙ ap (link links) (sym is)))
-              (stay (relink links at (link links place)) place at front (link links k) ks (subst (λ x. Apart x ks) is c.3) (stay links at (link links place) low (link links k) ks a.1 c.4)),
+              (stay (relink links at (link links place)) place at behind.low (link links k) ks (subst (λ x. Apart x ks) is c.3) (stay links at (link links place) within.low (link links k) ks a.1 c.4)),
         ),
       ))
       (λ e. (

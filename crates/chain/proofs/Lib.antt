@@ -1,9 +1,10 @@
-pub mod Links
+pub mod OnlyLinks
 pub mod Relinks
 pub mod Rising
 pub mod Places
 pub mod Counts
 pub mod Walks
+pub mod Steps
 pub mod Searches
 pub mod Insertions
 pub mod Removals

@@ -1,6 +1,6 @@
 -- Two chains that share no record, where a record leaves or enters one. Assumes nothing.
-use Rattle.std.proofs.Common.{◌≡◌, ℕ, List, [], ◌∷◌, sym, subst}
-use Rattle.chain.specs.Chains.{Chained, Apart, Clear, OthersStay, Becomes, link}
+use Rattle.std.proofs.Common.{◌≡◌, ℕ, ◌≤◌, List, [], ◌∷◌, length, sym, subst, arith}
+use Rattle.chain.specs.Chains.{Chained, Apart, Clear, OthersStay, Becomes, Within, link}
 use Rattle.chain.specs.Places.{put_before, without}
 use Rattle.chain.specs.Walks.{Disjoint}
 use Rattle.chain.proofs.Places.{clear_before, clear_without}
@@ -48,17 +48,20 @@ pub record Taken (links : List ℕ) (first free : ℕ) (ks js : List ℕ) : Type
   pub rest : List ℕ
   pub is : js ≡ free ∷ rest
   pub chains : Disjoint links first (link links free) ks rest
+  pub within : Within links free
   pub apart : Apart free rest
   pub away : Apart free ks
 
-pub takes_off : (links : List ℕ) (first free : ℕ) (ks js : List ℕ) → Disjoint links first free ks js → (free ≡ 0 → ⊥) → Taken links first free ks js
-takes_off links first free ks js d n =
-    let w = onward links free js d.spare n in
+pub takes_off : (links : List ℕ) (first free : ℕ) (ks js : List ℕ) → Disjoint links first free ks js → 1 ≤ length js → Taken links first free ks js
+takes_off links first free ks [] d h = absurd (omega arith)
+takes_off links first free ks (j ∷ js) d h =
+    let w = onward links free (j ∷ js) d.spare (λ z. omega (arith, z, d.spare.0, d.spare.1)) in
     let clear : Clear ks (free ∷ w.behind) = subst (Clear ks) w.is d.clear in
     record {
       rest = w.behind;
       is = w.is;
       chains = record { used = d.used; spare = w.chain; clear = clear_rest free ks w.behind clear };
+      within = record { low = w.low; high = w.high };
       apart = w.apart;
       away = apart_first free ks w.behind clear;
     }

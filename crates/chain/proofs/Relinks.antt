@@ -1,7 +1,7 @@
 -- What one changed link leaves of the chains. Assumes nothing.
-use Rattle.std.proofs.Common.{◌≡◌, ℕ, ◌-◌, ◌≤◌, List, [], ◌∷◌, length, sym, refl, ◌∙◌, subst, inl, inr, arith}
-use Rattle.std.proofs.lemmas.List.{length-set, get_or-set_same, get_or-set_other}
-use Rattle.chain.specs.Chains.{Chained, Apart, Among, Clear, OthersStay, link, relink}
+use Rattle.std.proofs.Common.{◌≡◌, ℕ, ◌-◌, ◌≤◌, List, [], ◌∷◌, map, sym, refl, ◌∙◌, subst, inl, inr, arith}
+use Rattle.std.proofs.lemmas.List.{length-map, length-set, get_or-set_same, get_or-set_other}
+use Rattle.chain.specs.Chains.{Chained, Apart, Among, Clear, OthersStay, Within, link, relink}
 
 -- a chain without the record whose link changes
 pub stay : (links : List ℕ) (k to : ℕ) → 1 ≤ k → (first : ℕ) (ks : List ℕ) → Apart k ks → Chained links first ks → Chained (relink links k to) first ks
@@ -11,9 +11,14 @@ stay links k to low first (x ∷ xs) a c =
     (c.0, c.1, omega (arith, length-set links (k - 1) to, c.2), c.3, subst (λ f. Chained (relink links k to) f xs) (sym (get_or-set_other links (k - 1) (x - 1) to 0 ne)) (stay links k to low (link links x) xs a.1 c.4))
 
 -- a chain with a record in front of it
-pub pushed : (links : List ℕ) (k first : ℕ) (ks : List ℕ) → 1 ≤ k → k ≤ length links → Apart k ks → Chained links first ks → Chained (relink links k first) k (k ∷ ks)
-pushed links k first ks low high a c =
-    (refl, low, omega (arith, length-set links (k - 1) first), a, subst (λ f. Chained (relink links k first) f ks) (sym (get_or-set_same links (k - 1) first 0 (omega arith))) (stay links k first low first ks a c))
+pub pushed : (links : List ℕ) (k first : ℕ) (ks : List ℕ) → Within links k → Apart k ks → Chained links first ks → Chained (relink links k first) k (k ∷ ks)
+pushed links k first ks w a c = (
+  refl,
+  w.low,
+  omega (arith, length-set links (k - 1) first),
+  a,
+  subst (λ f. Chained (relink links k first) f ks) (sym (get_or-set_same links (k - 1) first 0 (omega arith))) (stay links k first w.low first ks a c),
+)
 
 -- a chain has one list of records
 pub one_list : (links : List ℕ) (first : ℕ) (ks js : List ℕ) → Chained links first ks → Chained links first js → ks ≡ js
@@ -29,9 +34,16 @@ pub zero_apart : (links : List ℕ) (first : ℕ) (ks : List ℕ) → Chained li
 zero_apart links first [] c = tt
 zero_apart links first (k ∷ ks) c = ((λ e. omega (arith, c.1)), zero_apart links (link links k) ks c.4)
 
-pub among_within : (links : List ℕ) (k first : ℕ) (ks : List ℕ) → Among k ks → Chained links first ks → (1 ≤ k) × (k ≤ length links)
+-- a number is a record's by the records as by their links
+pub by_links : {R : Type 0} (s : R → ℕ) (rs : List R) (k : ℕ) → Within rs k → Within (map s rs) k
+by_links s rs k w = record { low = w.low; high = omega (arith, length-map rs s) }
+
+pub by_records : {R : Type 0} (s : R → ℕ) (rs : List R) (k : ℕ) → Within (map s rs) k → Within rs k
+by_records s rs k w = record { low = w.low; high = omega (arith, length-map rs s) }
+
+pub among_within : (links : List ℕ) (k first : ℕ) (ks : List ℕ) → Among k ks → Chained links first ks → Within links k
 among_within links k first [] a c = absurd a
-among_within links k first (x ∷ xs) (inl e) c = (omega (arith, e, c.1), omega (arith, e, c.2))
+among_within links k first (x ∷ xs) (inl e) c = record { low = omega (arith, e, c.1); high = omega (arith, e, c.2) }
 among_within links k first (x ∷ xs) (inr a) c = among_within links k (link links x) xs a c.4
 
 pub apart_among : (k at : ℕ) (ks : List ℕ) → Apart at ks → Among k ks → k ≡ at → ⊥

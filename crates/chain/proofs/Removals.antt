@@ -33,7 +33,7 @@ cuts links last at first (k ∷ ks) a m c =
       is = cond-false (eqb k at) _ _ e ∙ r.is;
       way = ⊎_elim
           (λ w. inr (
-            subst (Chained (relink links q to) first) (sym stays) (subst (λ x. Chained (relink links x to) first (k ∷ without at ks)) (sym w.1) (subst (λ f. Chained (relink links k to) f (k ∷ without at ks)) (sym c.0) (pushed links k to (without at ks) c.1 c.2 far w.0))),
+            subst (Chained (relink links q to) first) (sym stays) (subst (λ x. Chained (relink links x to) first (k ∷ without at ks)) (sym w.1) (subst (λ f. Chained (relink links k to) f (k ∷ without at ks)) (sym c.0) (pushed links k to (without at ks) (record { low = c.1; high = c.2 }) far w.0))),
             (λ h. a.0 (sym h ∙ w.1)),
             inl w.1,
           ))
@@ -43,7 +43,7 @@ cuts links last at first (k ∷ ks) a m c =
               c.1,
               omega (arith, length-set links (q - 1) to, c.2),
               far,
-              subst (λ f. Chained (relink links q to) f (without at ks)) (sym (get_or-set_other links (q - 1) (k - 1) to 0 (λ h. w.1 (omega (arith, (among_within links q (link links k) ks w.2 c.4).0, c.1))))) w.0,
+              subst (λ f. Chained (relink links q to) f (without at ks)) (sym (get_or-set_other links (q - 1) (k - 1) to 0 (λ h. w.1 (omega (arith, (among_within links q (link links k) ks w.2 c.4).low, c.1))))) w.0,
             ),
             (λ h. apart_among q last ks a.1 w.2 h),
             inr w.2,

@@ -1,41 +1,22 @@
--- A walk that looks for the record before another. Assumes nothing.
-use Rattle.std.proofs.Common.{◌≡◌, ℕ, false, eqb, ◌⊎◌, List, [], ◌∷◌, sym, refl, ap, ◌∙◌, subst, inl, inr, arith}
-use Rattle.std.proofs.lemmas.Bool.{ne_eqb, eq-eqb, cond-true, cond-false}
-use Rattle.chain.specs.Chains.{Chained, Ends, link}
+-- The record before another is the last of those that a walk passes before it. Assumes nothing.
+use Rattle.std.proofs.Common.{◌≡◌, ℕ, not, cond, true, false, eqb, List, [], ◌∷◌, take_while, unwrap_or, Option, None, Some, sym, refl, ap, ◌∙◌}
+use Rattle.std.specs.Iterator.{Drains}
+use Rattle.std.specs.List.{last_or}
+use Rattle.std.proofs.lemmas.Iterator.{YieldsList, items_from_drains}
+use Rattle.std.proofs.lemmas.List.{map-id}
+use Rattle.std.proofs.lemmas.List.Sums.{take_while-cons}
 use Rattle.chain.specs.Places.{predecessor}
-use Rattle.chain.proofs.Relinks.{one_list}
 
--- the walk came to `at` by `last`, and what is left decides
-pub record Searching (links : List ℕ) (first wanted last at : ℕ) : Type 0 where
-  pub rest : List ℕ
-  pub chain : Chained links at rest
-  pub goal : (ks : List ℕ) → Chained links first ks → predecessor last rest wanted ≡ predecessor 0 ks wanted
+pub last_before : (wanted : ℕ) (last : Option ℕ) (ks : List ℕ) → unwrap_or (last_or last (take_while (λ k. not (eqb k wanted)) ks)) 0 ≡ predecessor (unwrap_or last 0) ks wanted
+last_before wanted last [] = refl
+last_before wanted last (k ∷ ks) =
+    let behind : List ℕ = k ∷ take_while (λ k. not (eqb k wanted)) ks in
+    ap (λ l. unwrap_or (last_or last l) 0) (take_while-cons (λ k. not (eqb k wanted)) k ks) ∙
+    elim (eqb k wanted) as (λ b. unwrap_or (last_or last (cond (not b) behind [])) 0 ≡ cond b (unwrap_or last 0) (predecessor k ks wanted)) [
+      | true ↦ refl
+      | false ↦ last_before wanted (Some k) ks
+    ]
 
-pub starts : (links : List ℕ) (first wanted : ℕ) → Ends links first → Searching links first wanted 0 first
-starts links first wanted e = record {
-  rest = e.0;
-  chain = e.1;
-  goal = λ ks c. ap (λ l. predecessor 0 l wanted) (one_list links first e.0 ks e.1 c);
-}
-
-step : (links : List ℕ) (first wanted last at : ℕ) (rest : List ℕ) → Chained links at rest → ((ks : List ℕ) → Chained links first ks → predecessor last rest wanted ≡ predecessor 0 ks wanted) → (at ≡ 0 → ⊥) → (at ≡ wanted → ⊥) →
-    Searching links first wanted at (link links at)
-step links first wanted last at [] c g n w = absurd (n c)
-step links first wanted last at (k ∷ ks) c g n w =
-    let other : eqb k wanted ≡ false = ne_eqb k wanted (λ e. w (c.0 ∙ e)) in
-    record {
-      rest = ks;
-      chain = subst (λ x. Chained links (link links x) ks) (sym c.0) c.4;
-      goal = λ js d. ap (λ x. predecessor x ks wanted) c.0 ∙ sym (cond-false (eqb k wanted) last (predecessor k ks wanted) other) ∙ g js d;
-    }
-
-pub goes_on : (links : List ℕ) (first wanted last at : ℕ) → Searching links first wanted last at → (at ≡ 0 → ⊥) → (at ≡ wanted → ⊥) → Searching links first wanted at (link links at)
-goes_on links first wanted last at s n w = step links first wanted last at s.rest s.chain s.goal n w
-
-found : (links : List ℕ) (wanted last at : ℕ) (rest : List ℕ) → Chained links at rest → (at ≡ 0) ⊎ (at ≡ wanted) → predecessor last rest wanted ≡ last
-found links wanted last at [] c e = refl
-found links wanted last at (k ∷ ks) c (inl z) = absurd (omega (arith, z, c.0, c.1))
-found links wanted last at (k ∷ ks) c (inr e) = cond-true (eqb k wanted) last (predecessor k ks wanted) (eq-eqb k wanted (sym c.0 ∙ e))
-
-pub stops : (links : List ℕ) (first wanted last at : ℕ) → Searching links first wanted last at → (at ≡ 0) ⊎ (at ≡ wanted) → (ks : List ℕ) → Chained links first ks → last ≡ predecessor 0 ks wanted
-stops links first wanted last at s e ks c = sym (found links wanted last at s.rest s.chain e) ∙ s.goal ks c
+-- `last` of an iterator that gives a list
+pub last_from_yields_list : {S A : Type 0} {steps : S → Option A → S → Type 0} {s : S} {all : List A} (r : Option A) → ((xs : List A) × Drains steps s xs × (r ≡ last_or None xs)) → YieldsList steps (λ x. x) s all → r ≡ last_or None all
+last_from_yields_list r (xs, (u, (t, yields, ends)), is) road = is ∙ ap (last_or None) (sym (map-id xs) ∙ items_from_drains xs (t, yields, (λ _. (u, ends))) road)

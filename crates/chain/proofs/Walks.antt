@@ -1,5 +1,5 @@
 -- Following the links gives the chain's list, and the tests tell what they should. Assumes nothing.
-use Rattle.std.proofs.Common.{◌≡◌, ℕ, zero, suc, ◌<◌, ◌≤◌, true, not, ◌&&◌, eqb, leb, List, [], ◌∷◌, length, sym, refl, ap, ◌∙◌, subst, arith}
+use Rattle.std.proofs.Common.{◌≡◌, ℕ, zero, suc, ◌≤◌, true, not, ◌&&◌, eqb, leb, List, [], ◌∷◌, length, sym, refl, ap, ◌∙◌, subst, arith}
 use Rattle.std.proofs.lemmas.Bool.{and_parts, and_from, eqb-true, eqb-false, eq-eqb, ne_eqb, leb-true, le-leb, cond-true, cond-false, not-true, not_from_false}
 use Rattle.chain.specs.Chains.{link, Chained, Apart, Clear}
 use Rattle.chain.specs.Walks.{follow, walk, apart, clear, chained, disjoint, Disjoint}
@@ -39,14 +39,6 @@ onward links at (k ∷ ks) c n = record {
   chain = subst (λ x. Chained links (link links x) ks) (sym c.0) c.4;
 }
 
--- so a walk gets shorter with each link: a loop along a chain ends
-pub shorter : (links : List ℕ) (at to : ℕ) (ks : List ℕ) → Chained links at ks → (at ≡ 0 → ⊥) → to ≡ link links at → length (walk links to) < length (walk links at)
-shorter links at to ks c n t =
-    let w = onward links at ks c n in
-    let a = walks links at ks c in
-    let b = walks links to w.behind (subst (λ f. Chained links f w.behind) (sym t) w.chain) in
-    omega (arith, ap length a, ap length b, ap length w.is)
-
 apart_to : (k : ℕ) (ks : List ℕ) → apart k ks ≡ true → Apart k ks
 unfolding apart
 apart_to k [] e = tt
@@ -67,7 +59,7 @@ unfolding clear
 clear_from [] ks a = refl
 clear_from (x ∷ xs) ks a = and_from (apart x ks) (clear xs ks) (apart_from x ks a.0) (clear_from xs ks a.1)
 
-pub chained_to : (links : List ℕ) (first : ℕ) (ks : List ℕ) → chained links first ks ≡ true → Chained links first ks
+chained_to : (links : List ℕ) (first : ℕ) (ks : List ℕ) → chained links first ks ≡ true → Chained links first ks
 unfolding chained
 chained_to links first [] e = eqb-true first 0 e
 chained_to links first (k ∷ ks) e =
@@ -77,7 +69,7 @@ chained_to links first (k ∷ ks) e =
     let s = and_parts (apart k ks) (chained links (link links k) ks) r.1 in
     (eqb-true first k p.0, leb-true 1 k q.0, leb-true k (length links) r.0, apart_to k ks s.0, chained_to links (link links k) ks s.1)
 
-pub chained_from : (links : List ℕ) (first : ℕ) (ks : List ℕ) → Chained links first ks → chained links first ks ≡ true
+chained_from : (links : List ℕ) (first : ℕ) (ks : List ℕ) → Chained links first ks → chained links first ks ≡ true
 unfolding chained
 chained_from links first [] c = eq-eqb first 0 c
 chained_from links first (k ∷ ks) c =

@@ -1,6 +1,11 @@
 -- Chains through records: each record names the next by its number, from 1, and zero ends a chain. Assumes nothing.
 use Rattle.std.specs.Prelude.{◌≡◌, ℕ, ◌-◌, ◌≤◌, ◌⊎◌, List, [], ◌∷◌, ◌++◌, map, length, ◌≢◌, slice_index, slice_set}
 
+-- k is the number of a record
+pub record Within {R : Type 0} (records : List R) (k : ℕ) : Type 0 where
+  pub low : 1 ≤ k
+  pub high : k ≤ length records
+
 -- the link of record k
 abbrev pub link : List ℕ → ℕ → ℕ
 link links k = slice_index links (k - 1)

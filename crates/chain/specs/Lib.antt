@@ -1,3 +1,4 @@
 pub mod Chains
 pub mod Places
 pub mod Walks
+pub mod Records

@@ -1,5 +1,5 @@
 -- Lists of records with one put in or taken out. Assumes nothing.
-use Rattle.std.specs.Prelude.{ℕ, zero, suc, cond, List, [], ◌∷◌, ◌==◌}
+use Rattle.std.specs.Prelude.{ℕ, cond, List, [], ◌∷◌, ◌==◌}
 use Rattle.chain.specs.Chains.{Apart, Chained}
 
 -- `at` is put before `place`, or last where that is none of the list
@@ -21,11 +21,6 @@ without at (k ∷ ks) = cond (k == at) (without at ks) (k ∷ without at ks)
 abbrev pub predecessor : ℕ → List ℕ → ℕ → ℕ
 predecessor last [] wanted = last
 predecessor last (k ∷ ks) wanted = cond (k == wanted) last (predecessor k ks wanted)
-
--- n numbers from k on
-abbrev pub rising : ℕ → ℕ → List ℕ
-rising k zero = []
-rising k (suc n) = k ∷ rising (suc k) n
 
 -- a chain without `at` that had `place` has `at` behind it, and one that had neither is as it was
 abbrev pub Inserts : List ℕ → List ℕ → ℕ → ℕ → Type 0

@@ -1,10 +1,12 @@
 -- The codes of a set above a number. Assumes nothing.
-use Rattle.std.proofs.Common.{◌≡◌, ℕ, zero, suc, ◌+◌, ◌-◌, ◌<◌, ◌≤◌, Bool, true, false, cond, ltb, List, [], ◌∷◌, length, sym, refl, ap, ◌∙◌, subst, ⊎_elim, add-one, arith}
-use Rattle.std.proofs.lemmas.Bool.{cases_eq, cases_lt, lt-ltb, le-ltb}
+use Rattle.std.proofs.Common.{◌≡◌, ℕ, zero, suc, ◌+◌, ◌-◌, ◌<◌, ◌≤◌, Bool, true, false, cond, ltb, List, [], ◌∷◌, length, sym, refl, ap, ◌∙◌, subst, ⊎_elim, add-one, arith, Option, Some, None, ◌||◌, MatchOption}
+use Rattle.std.specs.Option.{IsSome}
+use Rattle.domain.proofs.Outcomes.{holds}
+use Rattle.std.proofs.lemmas.Bool.{false≢true, cases_eq, cases_lt, lt-ltb, le-ltb}
 use Rattle.domain.specs.Model.{Model, Lawful}
 use Rattle.semantics.specs.Cases.{from, keep, codes, settled_codes, Listed}
 use Rattle.semantics.proofs.Listed.{bounds_from, listed_keep}
-use Rattle.checker.specs.Walks.{above}
+use Rattle.checker.specs.Walks.{above, set_of, Follows}
 
 -- the order of two tests does not matter
 keep_keep : (s t : ℕ → Bool) (xs : List ℕ) → keep s (keep t xs) ≡ keep t (keep s xs)
@@ -96,6 +98,29 @@ module _ (t : ℕ → Bool) (n : ℕ) where
           let y : length passing ≡ 0 = ap length h ∙ ap (λ j. length (keep t (from k j))) z in
           absurd (omega arith)
 
+  -- numbers that do not pass, up to one that does or to the end
+  skips : (k : ℕ) → ((j : ℕ) → j < k → t j ≡ false) → passing ≡ keep t (from k (n - k))
+  skips zero h = first_none
+  skips (suc k) h = subst (λ j. passing ≡ keep t (from j (n - j))) (add-one k) (first_misses k (skips k (λ j l. h j (omega arith))) (h k (omega arith)))
+
+  pub first_found : (k : ℕ) → k < n → t k ≡ true → ((j : ℕ) → j < k → t j ≡ false) → passing ≡ k ∷ above k passing
+  first_found k l e h = first_meets k (skips k h) e l
+
+  above_skips : (c d : ℕ) → ((j : ℕ) → c < j → j ≤ c + d → t j ≡ false) → above c passing ≡ above (c + d) passing
+  above_skips c zero h = let e : c ≡ c + 0 = omega arith in ap (λ k. above k passing) e
+  above_skips c (suc d) h =
+      let e : c + d + 1 ≡ c + suc d = omega arith in
+      above_skips c d (λ j a b. h j a (omega arith)) ∙ above_misses (c + d) (h (c + d + 1) (omega arith) (omega arith)) ∙ ap (λ k. above k passing) e
+
+  pub next_found : (c i : ℕ) → c < i → i < n → t i ≡ true → ((j : ℕ) → c < j → j < i → t j ≡ false) → above c passing ≡ i ∷ above i passing
+  next_found c i a b e h =
+      let z : c + (i - (c + 1)) + 1 ≡ i = omega arith in
+      above_skips c (i - (c + 1)) (λ j l m. h j l (omega arith)) ∙
+      subst (λ k. above (c + (i - (c + 1))) passing ≡ k ∷ above k passing) z (above_meets (c + (i - (c + 1))) (ap t z ∙ e) (omega arith))
+
+  pub next_none : (c : ℕ) → ((j : ℕ) → c < j → j < n → t j ≡ false) → above c passing ≡ []
+  next_none c h = above_skips c (n - (c + 1)) (λ j a b. h j a (omega arith)) ∙ above_none (c + (n - (c + 1))) (omega arith)
+
   -- the numbers that pass from k on, counted
   pub count_misses : (k : ℕ) → t k ≡ false → length (keep t (from k (n - k))) ≡ length (keep t (from (k + 1) (n - (k + 1))))
   count_misses k e = ap length (from_misses k e ∙ ap (λ j. keep t (from j (n - j))) (sym (add-one k)))
@@ -124,3 +149,28 @@ settled_some m law =
     let (c, t) = law.some_settled in
     let b = law.settled_code c t in
     listed_some c (settled_codes m) (listed_keep m.settled (codes m) c (bounds_from 0 m.size c (omega arith) (omega arith)) t)
+
+-- what comes after c in a set of numbers below n, where the search goes through all numbers above c
+pub follows :
+    (t : ℕ → Bool) (n c start : ℕ) (r : Option ℕ) → ((j : ℕ) → c < j → j < n → start ≤ j) → ((j : ℕ) → start ≤ j → j < n → c < j) →
+    MatchOption r ((j : ℕ) → start ≤ j → j < n → t j ≡ false) (λ i. (start ≤ i) × (i < n) × (t i ≡ true) × ((j : ℕ) → start ≤ j → j < i → t j ≡ false)) →
+    Follows (keep t (from 0 n)) c r
+follows t n c start None down up h = next_none t n c (λ j a b. h j (down j a b) b)
+follows t n c start (Some i) down up h = next_found t n c i (up i h.0 h.1) h.1 h.2 (λ j a b. h.3 j (down j a (omega (arith, h.1))) b)
+
+-- the codes of a kind are those that pass its test
+pub set_passes : (m : Model) (free : Bool) → set_of m free ≡ keep (λ c. free || m.settled c) (codes m)
+set_passes m true = sym (keep_any (codes m))
+set_passes m false = refl
+
+-- the first settled code, where the search goes through all codes
+module _ (m : Model) (size : ℕ) (same : size ≡ m.size) where
+  abbrev Search : Option ℕ → Type 0
+  Search r = MatchOption r ((j : ℕ) → 0 ≤ j → j < size → m.settled j ≡ false) (λ i. (0 ≤ i) × (i < size) × (m.settled i ≡ true) × ((j : ℕ) → 0 ≤ j → j < i → m.settled j ≡ false))
+
+  pub settled_found : Lawful m → (r : Option ℕ) → Search r → IsSome r
+  settled_found law None h = let (c, t) = law.some_settled in absurd (false≢true (sym (h c (omega arith) (omega (arith, same, law.settled_code c t))) ∙ holds (m.settled c) t))
+  settled_found law (Some i) h = refl
+
+  pub settled_first : (r : Option ℕ) (i : ℕ) → r ≡ Some i → Search r → settled_codes m ≡ i ∷ above i (settled_codes m)
+  settled_first r i e h = let f = subst Search e h in first_found m.settled m.size i (omega (arith, same, f.1)) f.2 (λ j l. f.3 j (omega arith) l)

@@ -2,4 +2,3 @@ pub mod Above
 pub mod Walks
 pub mod Sides
 pub mod Searches
-pub mod Numbers

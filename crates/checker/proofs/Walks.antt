@@ -4,7 +4,7 @@ use Rattle.std.proofs.lemmas.List.{drop_more, drop_all, drop-set, take-set, leng
 use Rattle.std.proofs.lemmas.Bool.{cases_lt, lt-ltb, le-ltb}
 use Rattle.domain.specs.Model.{Model}
 use Rattle.semantics.specs.Cases.{codes, settled_codes, each_of, tuples}
-use Rattle.checker.specs.Walks.{above, left, present, set_of, sets, Known, Advanced, first_digits}
+use Rattle.checker.specs.Walks.{above, left, present, set_of, sets, Known, first_digits}
 use Rattle.checker.proofs.Above.{codes_first}
 
 -- the lists that begin with one of some entries
@@ -127,7 +127,7 @@ module _ (m : Model) (n f : ℕ) where
 
     pub turn_on :
         (x : ℕ) → above (get_or new (place - 1) 0) (set_of m (ltb (place - 1) n2)) ≡ x ∷ above x (set_of m (ltb (place - 1) n2)) →
-        Advanced (sets m n f) old (set new (place - 1) x) true
+        left (sets m n f) old ≡ present (sets m n f) old ∷ left (sets m n f) (set new (place - 1) x)
     turn_on x more = let k = length_sets in goes_on (sets m n f) old new (place - 1) (set_of m (ltb (place - 1) n2)) (get_or new (place - 1) 0) (omega arith) (omega arith) at_place refl before x more
 
     pub turn_back :
@@ -136,9 +136,9 @@ module _ (m : Model) (n f : ℕ) where
     turn_back x none least = let k = length_sets in falls_back (sets m n f) old new (place - 1) (set_of m (ltb (place - 1) n2)) (get_or new (place - 1) 0) (omega arith) (omega arith) at_place refl before x none least
 
 -- the first entry of each kind
-pub set_first : (m : Model) (last least : ℕ) → Known m last least → (free : Bool) → set_of m free ≡ cond free 0 least ∷ above (cond free 0 least) (set_of m free)
-set_first m last least k true = codes_first m.size (omega (arith, k.last_code))
-set_first m last least k false = k.least_settled
+pub set_first : (m : Model) (size least : ℕ) → 0 < m.size → Known m size least → (free : Bool) → set_of m free ≡ cond free 0 least ∷ above (cond free 0 least) (set_of m free)
+set_first m size least some k true = codes_first m.size some
+set_first m size least some k false = k.least_settled
 
 -- each entry at the first of its set
 choices_first : (d : List ℕ) (x : ℕ) → d ≡ x ∷ above x d → (f k : ℕ) → f ≤ k → left (replicate f d) (replicate k x) ≡ tuples (replicate f d)
@@ -153,8 +153,8 @@ entries_first a d w x p q zero f k l = choices_first d x q f k l
 entries_first a d w x p q (suc n) f k l = entry_first a (replicate n a ++ replicate f d) w (replicate n w ++ replicate k x) p (entries_first a d w x p q n f k l)
 
 -- so is the first list
-pub all_left : (m : Model) (last least n f : ℕ) → Known m last least → n ≤ 4 → f ≤ 8 → left (sets m n f) (first_digits n least) ≡ tuples (sets m n f)
-all_left m last least n f k few-free few-choices = entries_first (codes m) (settled_codes m) 0 least (set_first m last least k true) (set_first m last least k false) n f (12 - n) (omega arith)
+pub all_left : (m : Model) (size least n f : ℕ) → 0 < m.size → Known m size least → n ≤ 4 → f ≤ 8 → left (sets m n f) (first_digits n least) ≡ tuples (sets m n f)
+all_left m size least n f some k few-free few-choices = entries_first (codes m) (settled_codes m) 0 least (set_first m size least some k true) (set_first m size least some k false) n f (12 - n) (omega arith)
 
 -- one more of the front entries written
 pub front_more : (w x i k : ℕ) → 0 < k → set (replicate i w ++ replicate k x) i w ≡ replicate (i + 1) w ++ replicate (k - 1) x

@@ -1,10 +1,11 @@
 -- What the search reads and answers. Assumes nothing.
-use Rattle.std.specs.Prelude.{ℕ, Bool, List, length, take, drop, Some, None, Option}
+use Rattle.std.specs.Prelude.{◌≡◌, ℕ, Bool, List, [], ◌∷◌, length, take, drop, Some, None, Option}
 use Rattle.domain.specs.Model.{Model, Outcome}
 use Rattle.semantics.specs.Programs.{outcome}
 use Rattle.semantics.specs.Rules.{side}
 use Rattle.semantics.specs.Cases.{Case, outcome_refining}
 use Rattle.semantics.specs.declared.Instruction.{Instruction}
+use Rattle.checker.specs.Walks.{left, present}
 use Rattle.checker.specs.declared.case.Case.{Case as Held}
 
 -- a list of choices lets an outcome refine the source's
@@ -18,3 +19,8 @@ case_of c = record { vars = take c.variable_count c.digits; choices = take c.cho
 abbrev pub found : Option Held → Option Case
 found None = None
 found (Some c) = Some (case_of c)
+
+-- the case that comes next: behind the present list come those from its list on, or none
+abbrev pub Goes : List (List ℕ) → Held → Option Held → Type 0
+Goes ds c None = left ds c.digits ≡ present ds c.digits ∷ []
+Goes ds c (Some e) = (left ds c.digits ≡ present ds c.digits ∷ left ds e.digits) × (e.variable_count ≡ c.variable_count) × (e.choice_count ≡ c.choice_count)

@@ -1,5 +1,5 @@
 -- The lists that are still to come, from the present one on, in the order of `tuples`. Assumes nothing.
-use Rattle.std.specs.Prelude.{◌≡◌, ℕ, ◌+◌, ◌-◌, Bool, cond, List, [], ◌∷◌, ◌++◌, map, length, take, replicate, Some, None, Option, nat_lt}
+use Rattle.std.specs.Prelude.{◌≡◌, ℕ, ◌-◌, Bool, cond, List, [], ◌∷◌, ◌++◌, map, length, take, replicate, Some, None, Option, nat_lt}
 use Rattle.domain.specs.Model.{Model}
 use Rattle.semantics.specs.Cases.{codes, settled_codes, keep, each_of, tuples}
 
@@ -16,10 +16,6 @@ left (d ∷ ds) (c ∷ cs) = map (λ t. c ∷ t) (left ds cs) ++ each_of (λ a. 
 -- the present one
 abbrev pub present : List (List ℕ) → List ℕ → List ℕ
 present ds cs = take (length ds) cs
-
--- `more` says that the list es comes next, or that cs is the last
-abbrev pub Advanced : List (List ℕ) → List ℕ → List ℕ → Bool → Type 0
-Advanced ds cs es more = left ds cs ≡ present ds cs ∷ cond more (left ds es) []
 
 -- a free entry has any code, a choice a settled one
 abbrev pub set_of : Model → Bool → List ℕ
@@ -38,7 +34,7 @@ abbrev pub Follows : List ℕ → ℕ → Option ℕ → Type 0
 Follows d c None = above c d ≡ []
 Follows d c (Some x) = above c d ≡ x ∷ above x d
 
--- the last code and the first settled one
-pub record Known (m : Model) (last least : ℕ) : Type 0 where
-  pub last_code : last + 1 ≡ m.size
+-- the number of codes and the first settled one
+pub record Known (m : Model) (size least : ℕ) : Type 0 where
+  pub all_codes : size ≡ m.size
   pub least_settled : settled_codes m ≡ least ∷ above least (settled_codes m)

@@ -1,8 +1,8 @@
 // The cases of a rule tried in their order over any value domain, for the first that refutes it.
 #![tactic(auto)]
 
-mod bounds;
 pub mod case;
+mod codes;
 pub mod number;
 pub mod search;
 mod side;

@@ -1,47 +1,33 @@
 // A side of a rule run.
 ghost use Rattle.std.specs.Prelude.{◌≡◌, ◌≤◌, length};
 ghost use Rattle.semantics.specs.Programs.{outcome};
-ghost use Rattle.semantics.specs.Rules.{side};
+ghost use Rattle.semantics.specs.Rules.{side as as_program};
 ghost use Rattle.semantics.specs.Cases.{freezes_in, outcome_refining};
 
 use domain::{Domain, Outcome, Trapped};
-use semantics::Instruction;
-use semantics::step::{at_or_zero, is_freeze, step, used_after};
+use semantics::rule::Side;
+use semantics::run::Run;
 
 // How many choices a side uses up.
-pub fn count_freezes(body: &[Instruction]) -> u8
-    requires { length body.now ≤ 8 }
-    ensures value { result ≡ freezes_in body.now }
+pub fn count_freezes(side: &Side) -> u8
+    ensures value { result ≡ freezes_in side.now.items }
     ensures few { result ≤ 8 }
 {
-    let mut count = 0;
-    for i in 0..body.len() {
-        if is_freeze(body[i]) {
-            count += 1;
-        }
-    }
-    count
+    side.iter()
+        .filter(|instruction| instruction.is_freeze())
+        .count() as u8
 }
 
 // The outcome of a side at these variables and choices.
-pub fn run_side<D: Domain>(
-    domain: &D,
-    body: &[Instruction],
-    variables: &[u16],
-    choices: &[u16],
-) -> Outcome
-    requires { length body.now ≤ 8 }
-    ensures { result ≡ outcome (D.Domain.model domain.now) (side (length variables.now) body.now) variables.now choices.now }
+pub fn run_side<D: Domain>(domain: &D, side: &Side, variables: &[u16], choices: &[u16]) -> Outcome
+    ensures { result ≡ outcome (D.Domain.model domain.now) (as_program (length variables.now) side.now.items) variables.now choices.now }
 {
-    // by the numbers of the instructions, which begin at 1
-    let mut values = [0; 9];
-    let mut used = 0;
-    for i in 0..body.len() {
-        let choice = at_or_zero(choices, used);
-        values[i + 1] = step(domain, body[i], variables, &values, choice)?;
-        used = used_after(choices, used, body[i]);
+    // the numbers of the instructions begin at 1
+    let mut run = Run::<D, 9>::new(domain, variables, choices);
+    for (before, instruction) in side.iter().enumerate() {
+        run.take(before as u8 + 1, *instruction)?;
     }
-    Ok(values[body.len()])
+    Ok(run.value(side.len() as u8))
 }
 
 // Whether the target's outcome refines the source's.

@@ -4,12 +4,13 @@ ghost use Rattle.domain.specs.Faults.{fault_number, literal_code, settled_code};
 
 use crate::Domain;
 
-#[derive(Clone, Copy, PartialEq, Debug)]
+// Each fault stands for the number by which it is told.
+#[derive(Clone, Copy, PartialEq, Eq, Debug)]
 pub enum DomainFault {
     // a constant that has no settled code
-    NoSettledCode,
+    NoSettledCode = 7,
     // a width that is not 1 to 8
-    WrongWidth,
+    WrongWidth = 22,
 }
 
 impl DomainFault {
@@ -17,10 +18,7 @@ impl DomainFault {
     pub fn number(self) -> u8
         ensures { result ≡ fault_number self }
     {
-        match self {
-            DomainFault::NoSettledCode => 7,
-            DomainFault::WrongWidth => 22,
-        }
+        self as u8
     }
 }
 
@@ -39,8 +37,6 @@ pub fn settled_code<D: Domain>(domain: &D, code: u16) -> Result<u16, DomainFault
 pub fn literal_code<D: Domain>(domain: &D, number: i16) -> Result<u16, DomainFault>
     ensures { result ≡ literal_code (D.Domain.model domain.now) number }
 {
-    match domain.literal(number) {
-        Some(code) => settled_code(domain, code),
-        None => Err(DomainFault::NoSettledCode),
-    }
+    let code = domain.literal(number).ok_or(DomainFault::NoSettledCode)?;
+    settled_code(domain, code)
 }

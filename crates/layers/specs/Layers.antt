@@ -1,5 +1,6 @@
 -- The trap layer and the poison layer over any domain. Assumes nothing.
-use Rattle.std.specs.Prelude.{◌≡◌, ℕ, zero, suc, ◌+◌, ◌-◌, ◌<◌, Bool, true, false, cond, ◌||◌, ◌⊎◌, ◌==◌, ◌≢◌, bit_and, bit_or, nat_le, nat_lt, Ok}
+use Rattle.std.specs.Prelude.{◌≡◌, ℕ, ◌+◌, ◌-◌, ◌<◌, Bool, true, false, cond, ◌||◌, ◌⊎◌, ◌==◌, ◌≢◌, bit_and, bit_or, map, nat_le, nat_lt, Ok}
+use Rattle.std.specs.List.{fold, list_any, range_with_len}
 use Rattle.vocabulary.specs.declared.operation.Operation.{Operation}
 use Rattle.domain.specs.Model.{Model, Outcome, trap}
 
@@ -26,13 +27,11 @@ trapping m set = record {
 
 -- the union of sets over the numbers below a bound
 unfoldable pub union : ℕ → (ℕ → ℕ) → ℕ
-union zero f = 0
-union (suc n) f = bit_or (union n f) (f n)
+union n f = fold bit_or 0 (map f (range_with_len 0 n))
 
 -- a test passes at some number below a bound
 unfoldable pub any : ℕ → (ℕ → Bool) → Bool
-any zero f = false
-any (suc n) f = f n || any n f
+any n f = list_any f (range_with_len 0 n)
 
 abbrev pub is_trap : Outcome → Bool
 is_trap (Ok c) = false

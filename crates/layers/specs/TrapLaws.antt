@@ -1,7 +1,6 @@
 -- The trap layer keeps the laws of the domain below.
 use Rattle.std.specs.Prelude.{◌≡◌, ℕ, true, bit_and}
-use Rattle.std.proofs.Common.{⊎_elim, arith}
-use Rattle.std.proofs.lemmas.Bool.{ltb-true, lt-ltb, cases_eq}
+use Rattle.std.proofs.Common.{rules, tests}
 use Rattle.domain.specs.Model.{Model, Lawful, Within}
 use Rattle.layers.specs.Layers.{outside, violated, trapping}
 use Rattle.domain.proofs.Sets.{misses}
@@ -9,9 +8,7 @@ use Rattle.domain.proofs.Outcomes.{unless, unless_code, unless_trap}
 
 -- marks that strike within a set strike in it
 pub violated_more : (set marks x y : ℕ) → Within x y → violated set marks x ≡ true → violated set marks y ≡ true
-violated_more set marks x y w e =
-    lt-ltb 0 _ (let f = ltb-true 0 (bit_and x (bit_and marks set)) e in let g = misses x y (bit_and marks set) w in
-    ⊎_elim (λ z. absurd (omega (arith, g z))) (λ z. omega arith) (cases_eq (bit_and y (bit_and marks set)) 0))
+violated_more set marks x y w e = let g = misses x y (bit_and marks set) w in search (rules, tests)
 
 pub trapping_lawful : (m : Model) (set : ℕ) → Lawful m → Lawful (trapping m set)
 trapping_lawful m set l = record {

@@ -1,5 +1,5 @@
 // The poison layer: a broken mark gives poison, which stands for every code below.
-ghost use Rattle.std.specs.Prelude.{◌≡◌, if◌then◌else◌, Ok, nat_lt};
+ghost use Rattle.std.specs.Prelude.{◌≡◌, ℕ, Bool, if◌then◌else◌, Ok, nat_lt};
 ghost use Rattle.domain.specs.Model.{trap};
 ghost use Rattle.layers.specs.Layers.{poisoned, is_poison, is_trap, union_of, some_of, poison_broken, poison_traps, StandsForAll};
 ghost use Rattle.layers.specs.PoisonLaws.{poisoned_lawful};
@@ -10,7 +10,7 @@ use vocabulary::marks::Marks;
 use vocabulary::operation::Operation;
 
 // One more code, poison, equal to the size below; there is none over 65,535 codes.
-#[derive(Clone, Copy)]
+#[derive(Clone, Copy, PartialEq, Debug)]
 pub struct Poison<D> {
     below: D,
     marks: Marks,
@@ -37,73 +37,45 @@ impl<D: Domain> Poison<D> {
         code == self.below.size()
     }
 
-    // Broken marks over the codes that the second operand stands for.
-    fn broken_second(&self, op: Operation, a: u16, b: u16) -> Marks
-        ensures { result.bits ≡ union_of (D.Domain.model self.now.below) b (λ y. (D.Domain.model self.now.below).broken op a y) }
+    // Whether a test passes at some code that an operand stands for.
+    fn some_code<F: Fn(u16) -> bool>(&self, code: u16, test: F) -> bool
+        requires { (state : F) (x : _) → F.pre state x }
+        ensures { (f : ℕ → Bool) → ((x : ℕ) (r : Bool) → F.post test x r → r ≡ f x) → result ≡ some_of (D.Domain.model self.now.below) code f }
     {
-        if !self.is_poison(b) {
-            return self.below.broken(op, a, b);
+        if self.is_poison(code) {
+            (0..self.below.size()).any(test)
+        } else {
+            test(code)
         }
-        let size = self.below.size();
-        let mut marks = Marks::NONE;
-        for y in 0..size {
-            marks = marks.union(self.below.broken(op, a, y));
+    }
+
+    // The union of sets over the codes that an operand stands for.
+    fn union_over<F: Fn(u16) -> Marks>(&self, code: u16, marks_at: F) -> Marks
+        requires { (state : F) (x : _) → F.pre state x }
+        ensures { (f : ℕ → ℕ) → ((x : ℕ) (r : Marks) → F.post marks_at x r → r.bits ≡ f x) → result.bits ≡ union_of (D.Domain.model self.now.below) code f }
+    {
+        if self.is_poison(code) {
+            let codes = 0..self.below.size();
+            codes.map(marks_at).fold(Marks::NONE, Marks::union)
+        } else {
+            marks_at(code)
         }
-        marks
     }
 
     // Broken marks over the codes that both operands stand for.
     fn broken_both(&self, op: Operation, a: u16, b: u16) -> Marks
         ensures { result.bits ≡ poison_broken (D.Domain.model self.now.below) op a b }
     {
-        if !self.is_poison(a) {
-            return self.broken_second(op, a, b);
-        }
-        let size = self.below.size();
-        let mut marks = Marks::NONE;
-        for x in 0..size {
-            marks = marks.union(self.broken_second(op, x, b));
-        }
-        marks
-    }
-
-    // Whether computing below traps.
-    fn traps_below(&self, op: Operation, marks: Marks, a: u16, b: u16) -> bool
-        ensures { result ≡ is_trap ((D.Domain.model self.now.below).compute op marks.bits a b) }
-    {
-        self.below.compute(op, marks, a, b).is_err()
-    }
-
-    // Whether computing below traps for some code that the second operand stands for.
-    fn traps_second(&self, op: Operation, marks: Marks, a: u16, b: u16) -> bool
-        ensures { result ≡ some_of (D.Domain.model self.now.below) b (λ y. is_trap ((D.Domain.model self.now.below).compute op marks.bits a y)) }
-    {
-        if !self.is_poison(b) {
-            return self.traps_below(op, marks, a, b);
-        }
-        let size = self.below.size();
-        for y in 0..size {
-            if self.traps_below(op, marks, a, y) {
-                return true;
-            }
-        }
-        false
+        self.union_over(a, |x| self.union_over(b, |y| self.below.broken(op, x, y)))
     }
 
     // Whether computing below traps for some codes that the operands stand for.
     fn traps_both(&self, op: Operation, marks: Marks, a: u16, b: u16) -> bool
         ensures { result ≡ poison_traps (D.Domain.model self.now.below) op marks.bits a b }
     {
-        if !self.is_poison(a) {
-            return self.traps_second(op, marks, a, b);
-        }
-        let size = self.below.size();
-        for x in 0..size {
-            if self.traps_second(op, marks, x, b) {
-                return true;
-            }
-        }
-        false
+        self.some_code(a, |x| {
+            self.some_code(b, |y| self.below.compute(op, marks, x, y).is_err())
+        })
     }
 
     // An operation of which an operand is poison.
@@ -124,8 +96,7 @@ impl<D: Domain> Domain for Poison<D> {
     ghost lawful = { λ d. poisoned_lawful _ d.marks.bits (D.Domain.lawful d.below) };
 
     fn size(&self) -> u16 {
-        let below = self.below.size();
-        if below < 65535 { below + 1 } else { below }
+        self.below.size().saturating_add(1)
     }
 
     fn literal(&self, number: i16) -> Option<u16> {
@@ -172,7 +143,7 @@ impl<D: Domain> Domain for Poison<D> {
             return self.compute_poison(op, inner, a, b);
         }
         let code = self.below.compute(op, inner, a, b)?;
-        if violates(&self.below, self.marks, op, marks, a, b) {
+        if violates(&self.below, op, marks.common(self.marks), a, b) {
             Ok(self.below.size())
         } else {
             Ok(code)

@@ -9,7 +9,7 @@ use vocabulary::marks::Marks;
 use vocabulary::operation::Operation;
 
 // Answers like the domain below, but computing traps where a mark of the set is borne and broken.
-#[derive(Clone, Copy)]
+#[derive(Clone, Copy, PartialEq, Debug)]
 pub struct Trap<D> {
     below: D,
     marks: Marks,
@@ -57,7 +57,7 @@ impl<D: Domain> Domain for Trap<D> {
     }
 
     fn compute(&self, op: Operation, marks: Marks, a: u16, b: u16) -> Outcome {
-        if violates(&self.below, self.marks, op, marks, a, b) {
+        if violates(&self.below, op, marks.common(self.marks), a, b) {
             return Err(Trapped);
         }
         self.below.compute(op, marks.without(self.marks), a, b)

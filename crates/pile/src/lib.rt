@@ -1,11 +1,10 @@
 // Piles of layers over words that are chosen at run time, as one domain type.
 #![tactic(auto)]
 
-ghost use Rattle.std.specs.Prelude.{◌≡◌, ◌≤◌, Ok, Err};
+ghost use Rattle.std.specs.Prelude.{◌≡◌, ◌≤◌, MatchResult};
 ghost use Rattle.domain.specs.declared.fault.DomainFault.TheVariants.{WrongWidth};
-ghost use Rattle.words.specs.Words.{words};
 ghost use Rattle.pile.specs.Examples.{Examples};
-ghost use Rattle.pile.specs.Piles.{layered, over, pile_model};
+ghost use Rattle.pile.specs.Piles.{layered, over, pile_model, blueprint_model};
 ghost use Rattle.pile.specs.Layers.{layered_lawful};
 
 use domain::fault::DomainFault;
@@ -16,16 +15,15 @@ use vocabulary::marks::Marks;
 use vocabulary::operation::Operation;
 use words::Words;
 
-// What stands on a domain.
+// What may stand on a domain.
 #[derive(Clone, Copy, PartialEq, Debug)]
 pub enum Layer {
-    None,
     Trap(Marks),
     Poison(Marks),
 }
 
 // A domain with a layer that is chosen at run time, or with none.
-#[derive(Clone, Copy)]
+#[derive(Clone, Copy, PartialEq, Debug)]
 pub enum Layered<D> {
     Bare(D),
     Trapping(Trap<D>),
@@ -36,25 +34,36 @@ pub enum Layered<D> {
 pub type Pile = Layered<Layered<Layered<Words>>>;
 
 impl<D: Domain> Layered<D> {
-    pub fn over(below: D, layer: Layer) -> Layered<D>
+    pub fn over(below: D, layer: Option<Layer>) -> Layered<D>
         ensures { layered D.Domain.model result ≡ over (D.Domain.model below) layer }
     {
         match layer {
-            Layer::None => Layered::Bare(below),
-            Layer::Trap(marks) => Layered::Trapping(Trap::over(below, marks)),
-            Layer::Poison(marks) => Layered::Poisoning(Poison::over(below, marks)),
+            None => Layered::Bare(below),
+            Some(Layer::Trap(marks)) => Layered::Trapping(Trap::over(below, marks)),
+            Some(Layer::Poison(marks)) => Layered::Poisoning(Poison::over(below, marks)),
         }
     }
 }
 
-// The pile of three layers, from the bottom up, over words of a width.
-pub fn build(width: u16, bottom: Layer, middle: Layer, top: Layer) -> Result<Pile, DomainFault>
-    ensures { elim result [ Ok pile ↦ (pile_model pile ≡ over (over (over (words width) bottom) middle) top) × (1 ≤ width) × (width ≤ 8) | Err fault ↦ (fault ≡ WrongWidth) × (1 ≤ width → width ≤ 8 → ⊥) ] }
-{
-    let words = Words::new(width)?;
-    Ok(Layered::over(Layered::over(Layered::over(words, bottom), middle), top))
+// Words of a width under up to three layers, from the bottom up.
+#[derive(Clone, Copy, PartialEq, Debug)]
+pub struct Blueprint {
+    pub width: u16,
+    pub layers: [Option<Layer>; 3],
 }
 
+impl Blueprint {
+    // The domain that it describes; another width than 1 to 8 is refused.
+    pub fn build(self) -> Result<Pile, DomainFault>
+        ensures { MatchResult result (λ pile. (pile_model pile ≡ blueprint_model self) × (1 ≤ self.width) × (self.width ≤ 8)) (λ fault. (fault ≡ WrongWidth) × (1 ≤ self.width → self.width ≤ 8 → ⊥)) }
+    {
+        let [bottom, middle, top] = self.layers;
+        let words = Words::new(self.width)?;
+        Ok(Layered::over(Layered::over(Layered::over(words, bottom), middle), top))
+    }
+}
+
+// Each method matches: a `dyn Domain` that is handed out would hide what it promises.
 impl<D: Domain> Domain for Layered<D> {
     ghost model = { layered D.Domain.model };
 

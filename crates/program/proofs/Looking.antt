@@ -1,45 +1,22 @@
--- A walk that looks for a record. Assumes nothing.
-use Rattle.std.proofs.Common.{◌≡◌, ℕ, cond, eqb, List, [], ◌∷◌, map, Some, None, Option, sym, refl, ap, ◌∙◌, subst, arith}
-use Rattle.std.proofs.lemmas.Bool.{cond-true, cond-false, eq-eqb, ne_eqb}
+-- The instruction in a record, and how many freezes there are, as std says them. Assumes nothing.
+use Rattle.std.proofs.Common.{◌≡◌, ℕ, suc, true, false, cond, eqb, List, [], ◌∷◌, length, filter, find, Option, None, Some, refl, ap, ◌∙◌}
+use Rattle.std.specs.Option.{option_map}
+use Rattle.semantics.specs.Programs.{Placed, freezes, is_freeze}
 use Rattle.semantics.specs.Fitting.{look}
 use Rattle.semantics.specs.declared.Instruction.{Instruction}
-use Rattle.chain.specs.Chains.{Chained, link}
-use Rattle.chain.specs.Walks.{walk}
-use Rattle.chain.proofs.Walks.{Onward, onward}
-use Rattle.program.specs.View.{placed}
+use Rattle.program.specs.Windows.{in_its_record}
 
--- what is left decides
-pub record Looking (links : List ℕ) (is : List Instruction) (first wanted at : ℕ) : Type 0 where
-  pub rest : List ℕ
-  pub chain : Chained links at rest
-  pub same : look (map (placed is) rest) wanted ≡ look (map (placed is) (walk links first)) wanted
+looks : (wanted : ℕ) (xs : List Placed) → option_map (λ x. x.what) (find (λ x. eqb x.at wanted) xs) ≡ look xs wanted
+looks wanted [] = refl
+looks wanted (x ∷ xs) =
+    elim (eqb x.at wanted) as (λ b. option_map (λ x. x.what) (cond b (Some x) (find (λ x. eqb x.at wanted) xs)) ≡ cond b (Some x.what) (look xs wanted)) [ true ↦ refl | false ↦ looks wanted xs ]
 
-pub starts : (links : List ℕ) (is : List Instruction) (first wanted : ℕ) → Chained links first (walk links first) → Looking links is first wanted first
-starts links is first wanted c = record { rest = walk links first; chain = c; same = refl }
+pub look_found : (wanted : ℕ) (xs : List Placed) (found : Option (ℕ × Instruction)) → option_map in_its_record found ≡ find (λ x. eqb x.at wanted) xs → option_map (λ p. p.1) found ≡ look xs wanted
+look_found wanted xs None e = ap (option_map (λ x. x.what)) e ∙ looks wanted xs
+look_found wanted xs (Some p) e = ap (option_map (λ x. x.what)) e ∙ looks wanted xs
 
-module _ (links : List ℕ) (is : List Instruction) (first wanted at : ℕ) (s : Looking links is first wanted at) (n : at ≡ 0 → ⊥) where
-  w : Onward links at s.rest
-  w = onward links at s.rest s.chain n
-
-  abbrev behind : Option Instruction
-  behind = look (map (placed is) w.behind) wanted
-
-  opens : cond (eqb at wanted) (Some (placed is at).what) behind ≡ look (map (placed is) (walk links first)) wanted
-  opens = ap (λ l. look (map (placed is) l) wanted) (sym w.is) ∙ s.same
-
-  pub found : at ≡ wanted → Some (placed is at).what ≡ look (map (placed is) (walk links first)) wanted
-  found e = sym (cond-true (eqb at wanted) (Some (placed is at).what) behind (eq-eqb at wanted e)) ∙ opens
-
-  pub goes_on : (to : ℕ) → (at ≡ wanted → ⊥) → to ≡ link links at → Looking links is first wanted to
-  goes_on to e t = record {
-    rest = w.behind;
-    chain = subst (λ f. Chained links f w.behind) (sym t) w.chain;
-    same = sym (cond-false (eqb at wanted) (Some (placed is at).what) behind (ne_eqb at wanted e)) ∙ opens;
-  }
-
-pub ends_with : (links : List ℕ) (is : List Instruction) (first wanted at : ℕ) → Looking links is first wanted at → at ≡ 0 → None ≡ look (map (placed is) (walk links first)) wanted
-ends_with links is first wanted at s z = sym (none at s.rest s.chain z) ∙ s.same
-  where
-    none : (at : ℕ) (rest : List ℕ) → Chained links at rest → at ≡ 0 → look (map (placed is) rest) wanted ≡ None
-    none at [] c z = refl
-    none at (k ∷ ks) c z = absurd (omega (arith, z, c.0, c.1))
+pub freezes_counted : (xs : List Placed) → length (filter (λ x. is_freeze x.what) xs) ≡ freezes xs
+freezes_counted [] = refl
+freezes_counted (x ∷ xs) =
+    let rest = filter (λ (x : Placed). is_freeze x.what) xs in
+    elim (is_freeze x.what) as (λ b. length (cond b (x ∷ rest) rest) ≡ cond b (suc (freezes xs)) (freezes xs)) [ true ↦ ap suc (freezes_counted xs) | false ↦ freezes_counted xs ]

@@ -1,5 +1,5 @@
 -- The steps of rewriting on the instructions along a chain. Assumes nothing.
-use Rattle.std.proofs.Common.{◌≡◌, ℕ, ◌-◌, ◌≤◌, cond, ◌||◌, T, eqb, List, [], ◌∷◌, map, length, set, sym, refl, ap, ◌∙◌, subst, inl, inr, ⊎_elim, arith}
+use Rattle.std.proofs.Common.{◌≡◌, ℕ, ◌-◌, ◌≤◌, true, false, cond, ◌||◌, T, eqb, List, [], ◌∷◌, map, length, set, sym, refl, ap, ◌∙◌, subst, inl, inr, ⊎_elim, arith}
 use Rattle.std.proofs.lemmas.Bool.{cond-true, cond-false, eqb-true, eqb-false, cases_Bool}
 use Rattle.std.proofs.lemmas.List.{get_or-set_same, get_or-set_other}
 use Rattle.semantics.specs.Programs.{Placed, has, records}
@@ -21,21 +21,20 @@ has_among at (k ∷ ks) h = ⊎_elim (λ e. inl (eqb-true at k e)) (λ e. inr (h
 pub along_without : (is : List Instruction) (at : ℕ) (ks : List ℕ) → map (placed is) (without at ks) ≡ taken_out at (map (placed is) ks)
 along_without is at [] = refl
 along_without is at (k ∷ ks) =
-    let t = along_without is at ks in
-    ⊎_elim
-    (λ e. ap (map (placed is)) (cond-true (eqb k at) (without at ks) (k ∷ without at ks) e) ∙ t ∙ sym (cond-true (eqb k at) (taken_out at (map (placed is) ks)) (placed is k ∷ taken_out at (map (placed is) ks)) e))
-    (λ e. ap (map (placed is)) (cond-false (eqb k at) (without at ks) (k ∷ without at ks) e) ∙ ap (λ l. placed is k ∷ l) t ∙ sym (cond-false (eqb k at) (taken_out at (map (placed is) ks)) (placed is k ∷ taken_out at (map (placed is) ks)) e))
-    (cases_Bool (eqb k at))
+    let left = taken_out at (map (placed is) ks) in
+    elim (eqb k at) as (λ b. map (placed is) (cond b (without at ks) (k ∷ without at ks)) ≡ cond b left (placed is k ∷ left)) [
+      | true ↦ along_without is at ks
+      | false ↦ ap (λ l. placed is k ∷ l) (along_without is at ks)
+    ]
 
 pub along_before : (is : List Instruction) (place at : ℕ) (ks : List ℕ) → map (placed is) (put_before place at ks) ≡ put_in place (placed is at) (map (placed is) ks)
 along_before is place at [] = refl
 along_before is place at (k ∷ ks) =
     let xs = map (placed is) ks in
-    let t = along_before is place at ks in
-    ⊎_elim
-    (λ e. ap (map (placed is)) (cond-true (eqb k place) (at ∷ k ∷ ks) (k ∷ put_before place at ks) e) ∙ sym (cond-true (eqb k place) (placed is at ∷ placed is k ∷ xs) (placed is k ∷ put_in place (placed is at) xs) e))
-    (λ e. ap (map (placed is)) (cond-false (eqb k place) (at ∷ k ∷ ks) (k ∷ put_before place at ks) e) ∙ ap (λ l. placed is k ∷ l) t ∙ sym (cond-false (eqb k place) (placed is at ∷ placed is k ∷ xs) (placed is k ∷ put_in place (placed is at) xs) e))
-    (cases_Bool (eqb k place))
+    elim (eqb k place) as (λ b. map (placed is) (cond b (at ∷ k ∷ ks) (k ∷ put_before place at ks)) ≡ cond b (placed is at ∷ placed is k ∷ xs) (placed is k ∷ put_in place (placed is at) xs)) [
+      | true ↦ refl
+      | false ↦ ap (λ l. placed is k ∷ l) (along_before is place at ks)
+    ]
 
 -- another instruction in record `at`
 module _ (is : List Instruction) (at : ℕ) (i : Instruction) (low : 1 ≤ at) (high : at ≤ length is) where

@@ -1,11 +1,10 @@
 -- What a table holds of its records. Assumes nothing.
-use Rattle.std.proofs.Common.{◌≡◌, ℕ, ◌+◌, ◌≤◌, true, List, length, ap, ◌∙◌, arith}
-use Rattle.std.proofs.lemmas.List.{length-map}
+use Rattle.std.proofs.Common.{◌≡◌, ℕ, ◌+◌, true, List, length, ap, ◌∙◌, arith}
 use Rattle.semantics.specs.Programs.{Placed}
 use Rattle.semantics.specs.Changes.{Loaded}
-use Rattle.chain.specs.Chains.{Chained}
+use Rattle.chain.specs.Chains.{Ends}
 use Rattle.chain.specs.Walks.{walk, disjoint, Disjoint}
-use Rattle.chain.proofs.Walks.{onward, walks, disjoint_to, disjoint_from}
+use Rattle.chain.proofs.Walks.{walks, disjoint_to, disjoint_from}
 use Rattle.program.specs.declared.record.Record.{Record}
 use Rattle.program.specs.declared.table.Table.{Table}
 use Rattle.program.specs.View.{links, along}
@@ -37,6 +36,11 @@ shows rs first free inputs result ks js body d e =
 pub chains_of : (t : Table) → Disjoint (links t.records) t.first t.free (walk (links t.records) t.first) (walk (links t.records) t.free)
 chains_of t = disjoint_to (links t.records) t.first t.free t.chains
 
--- a chain that has not come to its end is at a record of the table
-pub inside : (rs : List Record) (at : ℕ) (ks : List ℕ) → Chained (links rs) at ks → (at ≡ 0 → ⊥) → (1 ≤ at) × (at ≤ length rs)
-inside rs at ks c n = let w = onward (links rs) at ks c n in (w.low, omega (arith, w.high, length-map rs (λ (r : Record). r.next)))
+-- both chains come to an end
+pub first_ends : (t : Table) → Ends (links t.records) t.first
+first_ends t = (walk (links t.records) t.first, (chains_of t).used)
+
+pub free_ends : (t : Table) → Ends (links t.records) t.free
+free_ends t = (walk (links t.records) t.free, (chains_of t).spare)
+
+pub ruleset chains_end = (first_ends, free_ends)

@@ -5,9 +5,9 @@ ghost use Rattle.program.specs.Faults.{fault_number};
 #[derive(Clone, Copy, PartialEq, Debug)]
 pub enum EvaluateFault {
     // not as many inputs as the program has, or not as many choices as it has freezes
-    WrongCount,
+    WrongCount = 20,
     // an input that is no code, or a choice that is not settled
-    WrongCode,
+    WrongCode = 21,
 }
 
 impl EvaluateFault {
@@ -15,9 +15,6 @@ impl EvaluateFault {
     pub fn number(self) -> u8
         ensures { result ≡ fault_number self }
     {
-        match self {
-            EvaluateFault::WrongCount => 20,
-            EvaluateFault::WrongCode => 21,
-        }
+        self as u8
     }
 }

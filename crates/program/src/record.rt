@@ -1,12 +1,13 @@
 // A record of the table: an instruction, and the number of the next record.
 ghost use Rattle.std.specs.Prelude.{◌≡◌, ◌-◌, ◌≤◌, length, take, slice_set};
-ghost use Rattle.program.specs.View.{instructions as contents, links, placed};
+ghost use Rattle.chain.specs.Chains.{Within};
+ghost use Rattle.program.specs.View.{instructions as contents, links};
 ghost use Rattle.std.proofs.Common.{rules};
 
 use chain::Linked;
 use semantics::Instruction;
 
-#[derive(Clone, Copy)]
+#[derive(Clone, Copy, Default)]
 pub struct Record {
     pub instruction: Instruction,
     pub next: u8,
@@ -32,19 +33,9 @@ impl Linked for Record {
     }
 }
 
-// The instruction in record `at`. The caller owes a record of the slice.
-pub fn instruction_of(records: &[Record], at: u8) -> Instruction
-    requires low { 1 ≤ at }
-    requires high { at ≤ length records.now }
-    ensures { result ≡ (placed (contents records.now) at).what }
-{
-    records[at as usize - 1].instruction
-}
-
 // Puts an instruction into record `at`. The caller owes a record of the slice.
 pub fn put(records: &mut [Record], at: u8, instruction: Instruction)
-    requires low { 1 ≤ at }
-    requires high { at ≤ length records.old }
+    requires { Within records.old at }
     ensures what { contents records.new ≡ slice_set (contents records.old) (at - 1) instruction }
     ensures rest { links records.new ≡ links records.old }
 {
@@ -56,7 +47,8 @@ pub fn fill(records: &mut [Record], instructions: &[Instruction])
     requires { length instructions.now ≤ length records.old }
     ensures { take (length instructions.now) (contents records.new) ≡ instructions.now }
 {
-    for i in 0..instructions.len() {
-        records[i].instruction = instructions[i];
+    // by their places: what `iter_mut` lends is lost to the proof once `zip` passes it on
+    for (i, instruction) in instructions.iter().enumerate() {
+        records[i].instruction = *instruction;
     }
 }

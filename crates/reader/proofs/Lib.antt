@@ -1,7 +1,6 @@
 pub mod Words
 pub mod Marked
 pub mod Operands
-pub mod Shapes
 pub mod ReadFaults
 pub mod NameTables
 pub mod Meanings
@@ -9,4 +8,3 @@ pub mod Told
 pub mod Borne
 pub mod Inputs
 pub mod Readings
-pub mod Walked

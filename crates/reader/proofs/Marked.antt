@@ -1,7 +1,7 @@
 -- The marks of an instruction, read one by one into a set.
-use Rattle.std.proofs.Common.{◌≡◌, ℕ, ◌+◌, Bool, true, false, cond, not, ◌||◌, eqb, ltb, List, [], ◌∷◌, Some, None, codes, Option, sym, refl, ap, ◌∙◌, subst, ap₂, ⊎_elim, add-zero, add_assoc, zero-add, arith}
+use Rattle.std.proofs.Common.{◌≡◌, ℕ, ◌+◌, Bool, true, false, cond, not, ◌&&◌, ◌||◌, eqb, ltb, List, [], ◌∷◌, Some, None, codes, Option, sym, refl, ap, ◌∙◌, subst, ap₂, ⊎_elim, add-zero, add_assoc, zero-add, arith}
 use lib.Bits.{bit_and, bit_or, and_zero_l, and_le_l, and_le_r, or_add_and, or_disjoint}
-use Rattle.std.proofs.lemmas.Bool.{true≢false, false≢true, eqb-true, ltb-false, or_cases, and_parts, and_from}
+use Rattle.std.proofs.lemmas.Bool.{false≢true, eqb-true, ltb-false, or_cases, and_parts, and_from}
 use Rattle.std.proofs.lemmas.Bool.Decides.{nat_tests}
 use Rattle.vocabulary.specs.declared.marks.Marks.{Marks}
 use Rattle.vocabulary.specs.declared.operation.Operation.{Operation}
@@ -14,7 +14,7 @@ use Rattle.text.specs.Words.{any}
 use Rattle.text.specs.Forms.{mark_number, mark_before, leading_marks, not_a_mark, behind_marks}
 use Rattle.text.specs.Instructions.{repeated, bad_marks, sum}
 use Rattle.text.proofs.Tests.{no_some}
-use Rattle.reader.specs.Marks.{is_mark, bears, Members, next_mark, after_mark}
+use Rattle.reader.specs.Marks.{is_mark, bears, Members, marks_of, next_mark, after_mark}
 
 -- there are four marks
 mark_cases : (P : ℕ → Type 0) → P 1 → P 2 → P 4 → P 8 → (x : ℕ) → is_mark x ≡ true → P x
@@ -82,7 +82,7 @@ any_more set x (y ∷ ys) ex e =
     swap false false c d = refl
 
 -- whether marks are misused where these are permitted, after those of a set, which were misused or not
-abbrev pub misused_after : ℕ → ℕ → Bool → List ℕ → Bool
+abbrev misused_after : ℕ → ℕ → Bool → List ℕ → Bool
 misused_after permitted set before xs = before || any (bears set) xs || (any (λ x. not (bears permitted x)) xs || repeated xs)
 
 misused_more : (permitted set : ℕ) (before : Bool) (x : ℕ) (xs : List ℕ) → is_mark x ≡ true → all is_mark xs ≡ true → misused_after permitted (bit_or set x) (before || (bears set x || not (bears permitted x))) xs ≡ misused_after permitted set before (x ∷ xs)
@@ -116,51 +116,62 @@ misused_is_bad op permitted xs h e = ap₂ (λ a b. a || (b || repeated xs)) (no
 set_more : (set x : ℕ) → bears set x ≡ false → bit_or set x ≡ set + x
 set_more set x e = or_disjoint set x (let h = ltb-false 0 (bit_and set x) e in omega arith)
 
--- what is left, after marks that are in the set, tells of all marks
-pub record Marked (permitted set : ℕ) (before : Bool) (ws all : List Bytes) : Type 0 where
-  pub misused : misused_after permitted set before (leading_marks ws) ≡ misused_after permitted 0 false (leading_marks all)
-  pub marks : misused_after permitted 0 false (leading_marks all) ≡ false → set + sum (leading_marks ws) ≡ sum (leading_marks all)
+-- a set, or none, with one more mark, where that is permitted and not in the set
+abbrev pub with_mark : ℕ → Option Marks → Marks → Option Marks
+with_mark permitted (Some set) m = cond (bears permitted m.bits && not (bears set.bits m.bits)) (Some (record { bits = bit_or set.bits m.bits })) None
+with_mark permitted None m = None
+
+-- the marks of a list, one after another
+abbrev pub with_marks : ℕ → Option Marks → List ℕ → Option Marks
+with_marks permitted o [] = o
+with_marks permitted o (x ∷ xs) = with_marks permitted (with_mark permitted o (record { bits = x })) xs
+
+none_stays : (permitted : ℕ) (xs : List ℕ) → with_marks permitted None xs ≡ None
+none_stays permitted [] = refl
+none_stays permitted (x ∷ xs) = none_stays permitted xs
+
+with_marks_is : (permitted : ℕ) (set : Marks) (xs : List ℕ) → all is_mark xs ≡ true → with_marks permitted (Some set) xs ≡ cond (misused_after permitted set.bits false xs) None (Some (record { bits = set.bits + sum xs }))
+with_marks_is permitted set [] e = ap (λ n. Some (record { bits = n })) (sym (add-zero set.bits))
+with_marks_is permitted set (x ∷ xs) e =
+    let (here, later) = and_parts (is_mark x) (all is_mark xs) e in
+    go (bears permitted x) (bears set.bits x) refl (with_marks_is permitted (record { bits = bit_or set.bits x }) xs later) (misused_more permitted set.bits false x xs here later)
+  where
+    more : Marks
+    more = record { bits = bit_or set.bits x }
+
+    go : (p b : Bool) → bears set.bits x ≡ b → with_marks permitted (Some more) xs ≡ cond (misused_after permitted more.bits false xs) None (Some (record { bits = more.bits + sum xs })) → misused_after permitted more.bits (false || (b || not p)) xs ≡ misused_after permitted set.bits false (x ∷ xs)
+        → with_marks permitted (cond (p && not b) (Some more) None) xs ≡ cond (misused_after permitted set.bits false (x ∷ xs)) None (Some (record { bits = set.bits + (x + sum xs) }))
+    go true false apart rest same =
+        rest
+        ∙ ap (λ n. cond (misused_after permitted more.bits false xs) None (Some (record { bits = n }))) (ap (λ n. n + sum xs) (set_more set.bits x apart) ∙ add_assoc set.bits x (sum xs))
+        ∙ ap (λ t. cond t None (Some (record { bits = set.bits + (x + sum xs) }))) same
+    go true true apart rest same = none_stays permitted xs ∙ ap (λ t. cond t None (Some (record { bits = set.bits + (x + sum xs) }))) same
+    go false true apart rest same = none_stays permitted xs ∙ ap (λ t. cond t None (Some (record { bits = set.bits + (x + sum xs) }))) same
+    go false false apart rest same = none_stays permitted xs ∙ ap (λ t. cond t None (Some (record { bits = set.bits + (x + sum xs) }))) same
+
+-- what is left tells of all marks
+pub record Marked (permitted : ℕ) (so_far : Option Marks) (ws all : List Bytes) : Type 0 where
+  pub marks : with_marks permitted so_far (leading_marks ws) ≡ with_marks permitted (Some (record { bits = 0 })) (leading_marks all)
   pub after : behind_marks ws ≡ behind_marks all
 
-pub marked_none : (permitted : ℕ) (ws : List Bytes) → Marked permitted 0 false ws ws
-marked_none permitted ws = record { misused = refl; marks = λ _. zero-add (sum (leading_marks ws)); after = refl }
-
-pub marked_more : (permitted set : ℕ) (before : Bool) (m : Marks) (ws rest all : List Bytes) → Some m ≡ next_mark ws → rest ≡ after_mark ws → Marked permitted set before ws all → Marked permitted (bit_or set m.bits) (before || (bears set m.bits || not (bears permitted m.bits))) rest all
-marked_more permitted set before m [] rest all e r h = absurd (no_some e)
-marked_more permitted set before m (w ∷ ws) rest all e r h =
-    let x = m.bits in
-    let known = named_is_mark w m (sym e) in
-    let leads : leading_marks (w ∷ ws) ≡ x ∷ leading_marks ws = ap (λ o. mark_before (mark_number o) (leading_marks ws)) (sym e) in
+pub marked_more : (permitted : ℕ) (so_far : Option Marks) (m : Marks) (ws rest all : List Bytes) → Some m ≡ next_mark ws → rest ≡ after_mark ws → Marked permitted so_far ws all → Marked permitted (with_mark permitted so_far m) rest all
+marked_more permitted so_far m [] rest all e r h = absurd (no_some e)
+marked_more permitted so_far m (w ∷ ws) rest all e r h =
     let goes : rest ≡ ws = r ∙ ap (λ o. not_a_mark (mark_number o) (w ∷ ws) ws) (sym e) in
-    let step = misused_more permitted set before x (leading_marks ws) known (leading_are_marks ws) in
-    let now : misused_after permitted set before (x ∷ leading_marks ws) ≡ misused_after permitted 0 false (leading_marks all) = ap (misused_after permitted set before) (sym leads) ∙ h.misused in
     record {
-      misused = ap (λ l. misused_after permitted (bit_or set x) (before || (bears set x || not (bears permitted x))) (leading_marks l)) goes ∙ step ∙ now;
-      marks = λ fine.
-          let apart : bears set x ≡ false = first_fails before (bears set x) _ _ (now ∙ fine) in
-          ap (λ l. bit_or set x + sum (leading_marks l)) goes ∙ ap (λ n. n + sum (leading_marks ws)) (set_more set x apart) ∙ add_assoc set x (sum (leading_marks ws)) ∙ ap (λ l. set + sum l) (sym leads) ∙ h.marks fine;
+      marks = ap (λ l. with_marks permitted (with_mark permitted so_far m) (leading_marks l)) goes ∙ ap (λ o. with_marks permitted so_far (mark_before (mark_number o) (leading_marks ws))) e ∙ h.marks;
       after = ap behind_marks goes ∙ ap (λ o. not_a_mark (mark_number o) (w ∷ ws) (behind_marks ws)) e ∙ h.after;
     }
-  where
-    first_fails : (a b c d : Bool) → (a || (b || c) || d) ≡ false → b ≡ false
-    first_fails true b c d e = absurd (true≢false e)
-    first_fails false true c d e = absurd (true≢false e)
-    first_fails false false c d e = refl
 
 -- where no mark comes next, all are read
-pub marked_all : (op : Operation) (permitted set : ℕ) (before : Bool) (ws rest all : List Bytes) → Members permitted (facts op).permitted → None ≡ next_mark ws → rest ≡ after_mark ws → Marked permitted set before ws all → (before ≡ bad_marks op (leading_marks all)) × (bad_marks op (leading_marks all) ≡ false → set ≡ sum (leading_marks all)) × (rest ≡ behind_marks all)
-marked_all op permitted set before ws rest all p e r h =
-    let (none, stays) = ends ws e in
-    let bad = misused_is_bad op permitted (leading_marks all) p (leading_are_marks all) in (
-      alone before ∙ ap (misused_after permitted set before) (sym none) ∙ h.misused ∙ bad,
-      (λ fine. sym (add-zero set) ∙ ap (λ l. set + sum l) (sym none) ∙ h.marks (bad ∙ fine)),
+pub marked_all : (op : Operation) (permitted : ℕ) (so_far : Option Marks) (ws rest all : List Bytes) → Members permitted (facts op).permitted → None ≡ next_mark ws → rest ≡ after_mark ws → Marked permitted so_far ws all → (so_far ≡ marks_of op (leading_marks all)) × (rest ≡ behind_marks all)
+marked_all op permitted so_far ws rest all p e r h =
+    let (none, stays) = ends ws e in (
+      ap (with_marks permitted so_far) (sym none) ∙ h.marks ∙ with_marks_is permitted (record { bits = 0 }) (leading_marks all) (leading_are_marks all)
+          ∙ (λ j. cond (misused_is_bad op permitted (leading_marks all) p (leading_are_marks all) j) None (Some (record { bits = zero-add (sum (leading_marks all)) j }))),
       r ∙ stays ∙ h.after,
     )
   where
     ends : (ws : List Bytes) → None ≡ next_mark ws → (leading_marks ws ≡ []) × (after_mark ws ≡ behind_marks ws)
     ends [] e = (refl, refl)
     ends (w ∷ ws) e = (ap (λ o. mark_before (mark_number o) (leading_marks ws)) (sym e), ap (λ o. not_a_mark (mark_number o) (w ∷ ws) ws) (sym e) ∙ ap (λ o. not_a_mark (mark_number o) (w ∷ ws) (behind_marks ws)) e)
-
-    alone : (b : Bool) → b ≡ (b || false || false)
-    alone true = refl
-    alone false = refl

@@ -1,8 +1,8 @@
 -- Operands as tokens tell them: a number that is told short is outside all the same. Assumes nothing.
-use Rattle.std.proofs.Common.{◌≡◌, ℕ, suc, ◌<◌, ◌≤◌, min, Bool, true, false, cond, ◌||◌, ltb, List, [], ◌∷◌, map, take, ℤ, pos, negsuc, neg_ℤ, Some, None, Ok, Err, Option, Result, sym, refl, ap, ◌∙◌, ⊎_elim, arith}
+use Rattle.std.proofs.Common.{◌≡◌, ℕ, zero, suc, ◌<◌, ◌≤◌, min, Bool, true, false, cond, ◌||◌, ltb, List, [], ◌∷◌, map, length, slice_get, slice_index_or, ℤ, pos, negsuc, neg_ℤ, Some, None, Ok, Err, Option, Result, sym, refl, ap, ◌∙◌, ⊎_elim, arith}
 use native.Mathlib.Nat.{min-eq_left, min-eq_right}
-use Rattle.std.proofs.lemmas.List.{take-map}
-use Rattle.std.proofs.lemmas.Bool.{ltb-false, lt-ltb, cases_lt}
+use Rattle.std.specs.List.{list_any}
+use Rattle.std.proofs.lemmas.Bool.{or_parts, ltb-false, lt-ltb, cases_lt}
 use Rattle.domain.specs.declared.fault.DomainFault.{DomainFault}
 use Rattle.domain.specs.declared.fault.DomainFault.TheVariants.{NoSettledCode}
 use Rattle.domain.specs.Model.{Model}
@@ -10,8 +10,10 @@ use Rattle.domain.specs.Faults.{settled_code, settled_if_any}
 use Rattle.semantics.specs.declared.Operand.TheVariants.{Constant}
 use Rattle.text.specs.Words.{Argument, a_name, a_number, a_code, any}
 use Rattle.text.specs.Instructions.{Names, constant, operand, outside, unreadable, refuses, unsettled}
-use Rattle.reader.specs.Tokens.{Seen, is_number, is_code, capped, told}
-use Rattle.reader.specs.Meanings.{far, strange, some, constant_of, meaning}
+use Rattle.text.proofs.Tests.{no_some}
+use Rattle.reader.specs.declared.token.Token.{Token}
+use Rattle.reader.specs.Tokens.{Seen, is_number, is_code, capped, seen, told}
+use Rattle.reader.specs.Meanings.{far, strange, constant_of, meaning}
 
 -- a cap above a limit leaves what is over the limit over it
 over_capped : (limit n : ℕ) → limit < 65536 → ltb limit (min n 65536) ≡ ltb limit n
@@ -57,10 +59,22 @@ meaning_told m ns (a_number z) h = ap (λ n. meaning m ns (is_number n)) (uncapp
 meaning_told m ns (a_code c) h = ap (λ n. meaning m ns (is_code n)) (min-eq_left (omega (arith, ltb-false 65535 c h))) ∙ settled_told m c
 
 -- what is so of some operand, by its token
-module _ (f : Seen → Bool) (g : Argument → Bool) (same : (a : Argument) → f (told a) ≡ g a) where
-  some_told : (xs : List Argument) → some (map f (map told xs)) ≡ any g xs
-  some_told [] = refl
-  some_told (a ∷ xs) = (λ j. same a j || some_told xs j)
+pub any_told : (f : Seen → Bool) (g : Argument → Bool) → ((a : Argument) → f (told a) ≡ g a) → (xs : List Argument) → any f (map told xs) ≡ any g xs
+any_told f g same [] = refl
+any_told f g same (a ∷ xs) = (λ j. same a j || any_told f g same xs j)
 
-  pub some_of_taken : (n : ℕ) (x y z : Seen) (xs : List Argument) → take n (x ∷ y ∷ z ∷ []) ≡ map told xs → some (take n (f x ∷ f y ∷ f z ∷ [])) ≡ any g xs
-  some_of_taken n x y z xs e = ap some (take-map f n (x ∷ y ∷ z ∷ [])) ∙ ap (λ ts. some (map f ts)) e ∙ some_told xs
+pub any_seen : (f : Seen → Bool) (ts : List Token) → list_any (λ t. f (seen t)) ts ≡ any f (map seen ts)
+any_seen f [] = refl
+any_seen f (t ∷ ts) = ap (λ b. f (seen t) || b) (any_seen f ts)
+
+-- the item in a place of a list
+pub item_at : {X : Type 0} (xs : List X) (k : ℕ) (x : X) → k < length xs → x ≡ slice_index_or xs k x → slice_get xs k ≡ Some x
+item_at [] k x l e = absurd (omega arith)
+item_at (y ∷ xs) zero x l e = ap (λ z. Some z) (sym e)
+item_at (y ∷ xs) (suc k) x l e = item_at xs k x (omega arith) e
+
+-- what is so of no operand is not so of the one in a place
+pub none_at : (f : Seen → Bool) (ts : List Token) (k : ℕ) (t : Token) → any f (map seen ts) ≡ false → slice_get ts k ≡ Some t → f (seen t) ≡ false
+none_at f [] k t h e = absurd (no_some (sym e))
+none_at f (x ∷ ts) zero t h e = let same : x ≡ t = cc in ap (λ u. f (seen u)) (sym same) ∙ (or_parts (f (seen x)) _ h).0
+none_at f (x ∷ ts) (suc k) t h e = none_at f ts k t (or_parts (f (seen x)) _ h).1 e

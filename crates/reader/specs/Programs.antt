@@ -1,5 +1,5 @@
 -- What a text of a program was read to. Assumes nothing.
-use Rattle.std.specs.Prelude.{take, Ok, Err, Result}
+use Rattle.std.specs.Prelude.{Ok, Err, Result}
 use Rattle.semantics.specs.Programs.{Program}
 use Rattle.semantics.specs.Rules.{numbered}
 use Rattle.text.specs.Faults.{Read, accepted, refused}
@@ -9,7 +9,7 @@ use Rattle.reader.specs.ReadFaults.{read_fault}
 
 -- the program in the records 1, 2, 3, …
 abbrev pub program_in : ProgramText → Program
-program_in p = record { inputs = p.inputs; body = numbered 1 (take p.count p.body); result = p.result }
+program_in p = record { inputs = p.inputs; body = numbered 1 p.body.items; result = p.result }
 
 abbrev pub read_of : Result ProgramText ReadFault → Read Program
 read_of (Ok p) = accepted (program_in p)

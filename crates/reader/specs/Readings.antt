@@ -7,7 +7,6 @@ use Rattle.text.specs.ProgramTexts.{Section as Place, at_start, in_body, at_end,
 use Rattle.reader.specs.declared.program.Section.{Section}
 use Rattle.reader.specs.declared.program.Section.TheVariants.{Start, Body, End}
 use Rattle.reader.specs.declared.program.Reading.{Reading}
-use Rattle.reader.specs.Scopes.{table}
 
 abbrev pub section_of : Section → Place
 section_of Start = at_start
@@ -23,7 +22,7 @@ named_all (n ∷ ns) (i ∷ is) = record { name = n; what = i } ∷ named_all ns
 abbrev pub reading_of : Reading → Said
 reading_of r = record {
   section = section_of r.section;
-  inputs = table r.scope.variables;
-  body = named_all (table r.scope.instructions) r.body;
+  inputs = r.scope.variables;
+  body = named_all r.scope.instructions r.body.items;
   result = r.result;
 }

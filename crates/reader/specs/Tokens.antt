@@ -1,13 +1,12 @@
 -- Tokens and forms by what they hold, and not by where that lies. Assumes nothing.
-use Rattle.std.specs.Prelude.{◌≡◌, ℕ, suc, min, false, List, [], ◌∷◌, map, take, ℤ, pos, negsuc, neg_ℤ, Some, None, Option}
-use Rattle.vocabulary.specs.Names.{operand_count}
+use Rattle.std.specs.Prelude.{◌≡◌, ℕ, suc, ◌≤◌, min, List, map, ℤ, ◌≤ℤ◌, pos, negsuc, neg_ℤ, Some, None, Option}
 use Rattle.scan.specs.Pieces.{Bytes, left}
 use Rattle.text.specs.Words.{Argument, a_name, a_number, a_code, each, name}
 use Rattle.text.specs.Forms.{Form as Shape, Written as Spelt, rule_line, arrow_line, end_line, in_line, ret_line, instruction_line}
-use Rattle.text.specs.Instructions.{bad_marks, sum}
+use Rattle.reader.specs.Marks.{marks_of}
 use Rattle.reader.specs.declared.token.Token.{Token}
-use Rattle.reader.specs.declared.token.Token.TheVariants.{Name, Number, Code, Word}
-use Rattle.reader.specs.declared.form.Written.{Written}
+use Rattle.reader.specs.declared.token.Token.TheVariants.{Name, Number, Code}
+use Rattle.reader.specs.declared.written.Written.{Written}
 use Rattle.reader.specs.declared.form.Form.{Form}
 use Rattle.reader.specs.declared.form.Form.TheVariants.{Rule, Arrow, End, In, Ret, Instruction}
 
@@ -20,13 +19,17 @@ pub data Seen : Type 0 where
   is_name : Bytes → Seen
   is_number : ℤ → Seen
   is_code : ℕ → Seen
-  is_word : Bytes → Seen
 
 abbrev pub seen : Token → Seen
 seen (Name t) = is_name t.now
 seen (Number z) = is_number z
 seen (Code n) = is_code n
-seen (Word t) = is_word t.now
+
+-- how large a token's number can be
+abbrev pub Bounded : Token → Type 0
+Bounded (Name t) = Unit {0}
+Bounded (Number z) = (negsuc 65535 ≤ℤ z) × (z ≤ℤ pos 65536)
+Bounded (Code n) = n ≤ 65536
 
 -- what is told of an operand
 abbrev pub told : Argument → Seen
@@ -34,21 +37,15 @@ told (a_name n) = is_name n
 told (a_number z) = is_number (capped z)
 told (a_code c) = is_code (min c 65536)
 
--- the token of a word that is an operand, or of another
-abbrev pub token_of : Option Argument → Bytes → Seen
-token_of (Some a) w = told a
-token_of None w = is_word w
-
 -- the operands that an instruction is written with
 abbrev pub tokens : Written → List Seen
-tokens w = take (operand_count w.operation) (seen w.first ∷ seen w.second ∷ seen w.third ∷ [])
+tokens w = map seen w.operands.items
 
 -- an instruction line in place against what it spells
 pub record Spells (w : Written) (s : Spelt) : Type 0 where
   pub name : w.name.now ≡ s.name
   pub operation : w.operation ≡ s.operation
-  pub wrong : w.misused ≡ bad_marks s.operation s.marks
-  pub marks : bad_marks s.operation s.marks ≡ false → w.marks.bits ≡ sum s.marks
+  pub marks : w.marks ≡ marks_of s.operation s.marks
   pub operands : tokens w ≡ map told s.arguments
 
 -- a form in place against the form that it is

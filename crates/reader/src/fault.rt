@@ -5,19 +5,20 @@ ghost use Rattle.reader.specs.ReadFaults.{text_number, located, read_fault};
 
 use domain::fault::DomainFault;
 
-#[derive(Clone, Copy, PartialEq, Debug)]
+// Each fault stands for the number by which it is told.
+#[derive(Clone, Copy, PartialEq, Eq, Debug)]
 pub enum TextFault {
     // a text over 4,096 bytes
-    TooLong,
+    TooLong = 1,
     // a line of no form, or out of order
-    NoForm,
+    NoForm = 2,
     // a number outside -128 to 255, or a code over 65,535
-    NumberOutside,
-    TooMany,
+    NumberOutside = 3,
+    TooMany = 4,
     // a name that is not readable where it stands, or taken already
-    BadName,
+    BadName = 5,
     // a mark that may not stand on its operation, or is repeated
-    BadMark,
+    BadMark = 6,
 }
 
 impl TextFault {
@@ -25,25 +26,18 @@ impl TextFault {
     pub fn number(self) -> u8
         ensures { result ≡ text_number self }
     {
-        match self {
-            TextFault::TooLong => 1,
-            TextFault::NoForm => 2,
-            TextFault::NumberOutside => 3,
-            TextFault::TooMany => 4,
-            TextFault::BadName => 5,
-            TextFault::BadMark => 6,
-        }
+        self as u8
     }
 }
 
 // A fault with the line that it stands on, counted from 1; 0 is the text as a whole.
-#[derive(Clone, Copy, PartialEq, Debug)]
+#[derive(Clone, Copy, PartialEq, Eq, Debug)]
 pub struct At<F> {
     pub line: u16,
     pub fault: F,
 }
 
-#[derive(Clone, Copy, PartialEq, Debug)]
+#[derive(Clone, Copy, PartialEq, Eq, Debug)]
 pub enum ReadFault {
     Text(At<TextFault>),
     Domain(At<DomainFault>),
@@ -97,8 +91,5 @@ impl ReadFault {
 pub fn on_line<T, F>(line: u16, answer: Result<T, F>) -> Result<T, At<F>>
     ensures { result ≡ located line answer }
 {
-    match answer {
-        Ok(value) => Ok(value),
-        Err(fault) => Err(At { line, fault }),
-    }
+    answer.map_err(|fault| At { line, fault })
 }

@@ -9,3 +9,4 @@ pub mod names;
 pub mod program;
 pub mod scope;
 pub mod token;
+pub mod written;

@@ -1,21 +1,19 @@
 // Texts of programs.
-ghost use Rattle.std.specs.Prelude.{◌≡◌, ◌≤◌, length};
+ghost use Rattle.std.specs.Prelude.{◌≡◌, length};
 
 use crate::scope::Scope;
+use arrayvec::ArrayVec;
 pub use read::read_program;
 use semantics::Instruction;
 
 pub mod read;
 
 // A program as a text gives it: so many inputs, its instructions in the records 1, 2, 3, …, and the record of its result.
-#[derive(Clone, Copy)]
+#[derive(Drop)]
 pub struct ProgramText {
     pub inputs: u8,
-    pub count: u8,
-    pub body: [Instruction; 64],
+    pub body: ArrayVec<Instruction, 64>,
     pub result: u8,
-    ghost long: { length body ≡ 64 },
-    ghost few: { count ≤ 64 },
 }
 
 // Where in the text a line stands.
@@ -26,12 +24,12 @@ enum Section {
     End,
 }
 
-// What the lines so far say. The body has as many instructions as there are names of instructions.
-#[derive(Clone, Copy)]
+// What the lines so far say.
+#[derive(Drop)]
 struct Reading<'a> {
     section: Section,
     scope: Scope<'a>,
-    body: [Instruction; 64],
+    body: ArrayVec<Instruction, 64>,
     result: u8,
-    ghost long: { length body ≡ 64 },
+    ghost all_named: { length scope.instructions ≡ length body.items },
 }

@@ -7,14 +7,11 @@ use crate::names::Names;
 use semantics::Operand;
 
 // Variables of a rule or inputs of a program, and the instructions before the line.
-#[derive(Clone, Copy)]
+#[derive(Drop)]
 pub struct Scope<'a> {
     pub variables: Names<'a>,
     pub instructions: Names<'a>,
 }
-
-// What stands in the places of operands that an operation does not take.
-pub const FILLER: Operand = Operand::Constant(0);
 
 impl<'a> Scope<'a> {
     pub fn new() -> Scope<'a>
@@ -42,7 +39,7 @@ impl<'a> Scope<'a> {
         }
         match self.variables.place(name) {
             Some(v) => Operand::Input(v as u8),
-            None => FILLER,
+            None => Operand::default(),
         }
     }
 }

@@ -1,95 +1,61 @@
--- The first line of a text and the first word of a line.
-use Rattle.std.proofs.Common.{◌≡◌, ℕ, zero, suc, ◌+◌, ◌-◌, ◌<◌, Bool, true, false, cond, List, [], ◌∷◌, length, take, drop, sym, refl, ap, ◌∙◌, add-one, arith, length-drop, drop-drop}
-use Rattle.std.proofs.lemmas.List.{drop_all, take_rest}
-use Rattle.scan.specs.declared.Separators.{Separators}
-use Rattle.scan.specs.declared.Separators.TheVariants.{LineFeeds}
-use Rattle.scan.specs.Pieces.{Bytes, byte_before, pieces, separates, lines, non_empty, words, until, gap, first_line, after_line}
+-- The first piece of a text, and the first word among pieces.
+use Rattle.std.proofs.Common.{◌≡◌, ℕ, suc, ◌+◌, ◌<◌, ◌≤◌, Bool, true, false, not, cond, List, [], ◌∷◌, length, take, drop, Some, None, Option, sym, refl, ap, ◌∙◌, one-add, arith, Bor}
+use denote.Param.Members.{Mut}
+use Rattle.std.specs.Fn.{CalledAt}
+use Rattle.std.specs.Iterator.{Yields, FindsItem, YieldsFirstRef}
+use Rattle.std.specs.List.{FoldsTo, position_or_len, before_first, after_first}
+use Rattle.std.specs.Option.{MatchOption}
+use Rattle.scan.specs.declared.Pieces.{Pieces}
+use Rattle.scan.specs.Pieces.{Bytes, byte_before, pieces, non_empty, pieces_left}
 
--- the first piece, and the pieces after it
-pub pieces_cut : (ends : ℕ → Bool) (b : ℕ) (bs : Bytes) → pieces ends (b ∷ bs) ≡ take (until ends (b ∷ bs)) (b ∷ bs) ∷ pieces ends (drop (suc (until ends (b ∷ bs))) (b ∷ bs))
+pieces_cut : (ends : ℕ → Bool) (b : ℕ) (bs : Bytes) → pieces ends (b ∷ bs) ≡ before_first ends (b ∷ bs) ∷ pieces ends (after_first ends (b ∷ bs))
 pieces_cut ends b [] = last (ends b)
   where
-    last : (t : Bool) → byte_before t b [] ≡ take (cond t 0 1) (b ∷ []) ∷ pieces ends (drop (suc (cond t 0 1)) (b ∷ []))
+    last : (t : Bool) → byte_before t b [] ≡ take (cond (not t) 1 0) (b ∷ []) ∷ pieces ends (drop (cond (not t) 1 0 + 1) (b ∷ []))
     last true = refl
     last false = refl
-pieces_cut ends b (x ∷ xs) = more (ends b) (pieces_cut ends x xs)
+pieces_cut ends b (x ∷ xs) = more (ends b) (position_or_len ends (x ∷ xs)) (pieces_cut ends x xs)
   where
-    more : (t : Bool) → pieces ends (x ∷ xs) ≡ take (until ends (x ∷ xs)) (x ∷ xs) ∷ pieces ends (drop (suc (until ends (x ∷ xs))) (x ∷ xs)) → byte_before t b (pieces ends (x ∷ xs)) ≡ take (cond t 0 (suc (until ends (x ∷ xs)))) (b ∷ x ∷ xs) ∷ pieces ends (drop (suc (cond t 0 (suc (until ends (x ∷ xs))))) (b ∷ x ∷ xs))
-    more true e = refl
-    more false e = ap (byte_before false b) e
+    more : (t : Bool) (n : ℕ) → pieces ends (x ∷ xs) ≡ take n (x ∷ xs) ∷ pieces ends (drop (n + 1) (x ∷ xs)) → byte_before t b (pieces ends (x ∷ xs)) ≡ take (cond (not t) (1 + n) 0) (b ∷ x ∷ xs) ∷ pieces ends (drop (cond (not t) (1 + n) 0 + 1) (b ∷ x ∷ xs))
+    more true n e = refl
+    more false n e =
+        let shift : suc (n + 1) ≡ 1 + n + 1 = omega arith in
+        ap (byte_before false b) e ∙ λ j. take (sym (one-add n) j) (b ∷ x ∷ xs) ∷ pieces ends (drop (shift j) (b ∷ x ∷ xs))
 
-module _ (by : Separators) where
-  -- a separator before words
-  words_skip : (b : ℕ) (bs : Bytes) → separates by b ≡ true → words by (b ∷ bs) ≡ words by bs
-  words_skip b bs e = ap (λ t. non_empty (byte_before t b (pieces (separates by) bs))) e
-
-  pub words_gap : (bs : Bytes) → words by bs ≡ words by (drop (gap (separates by) bs) bs)
-  words_gap [] = refl
-  words_gap (b ∷ bs) = go (separates by b) refl (words_gap bs)
-    where
-      go : (t : Bool) → separates by b ≡ t → words by bs ≡ words by (drop (gap (separates by) bs) bs) → words by (b ∷ bs) ≡ words by (drop (cond t (suc (gap (separates by) bs)) 0) (b ∷ bs))
-      go true e h = words_skip b bs e ∙ h
-      go false e h = refl
-
-  -- where no word begins behind the gap, the line has ended
-  pub gap_ends : (bs : Bytes) → until (separates by) (drop (gap (separates by) bs) bs) ≡ 0 → drop (gap (separates by) bs) bs ≡ []
-  gap_ends [] h = refl
-  gap_ends (b ∷ bs) h = go (separates by b) refl (gap_ends bs) h
-    where
-      go : (t : Bool) → separates by b ≡ t → (until (separates by) (drop (gap (separates by) bs) bs) ≡ 0 → drop (gap (separates by) bs) bs ≡ []) → until (separates by) (drop (cond t (suc (gap (separates by) bs)) 0) (b ∷ bs)) ≡ 0 → drop (cond t (suc (gap (separates by) bs)) 0) (b ∷ bs) ≡ []
-      go true e next h = next h
-      go false e next h = let z : suc (until (separates by) bs) ≡ 0 = sym (ap (λ t. cond t 0 (suc (until (separates by) bs))) e) ∙ h in absurd (omega arith)
-
-  -- the separator that ends a word begins no other
-  words_end : (bs : Bytes) → words by (drop (until (separates by) bs) bs) ≡ words by (drop (suc (until (separates by) bs)) bs)
-  words_end [] = refl
-  words_end (b ∷ bs) = go (separates by b) refl (words_end bs)
-    where
-      go : (t : Bool) → separates by b ≡ t → words by (drop (until (separates by) bs) bs) ≡ words by (drop (suc (until (separates by) bs)) bs) → words by (drop (cond t 0 (suc (until (separates by) bs))) (b ∷ bs)) ≡ words by (drop (suc (cond t 0 (suc (until (separates by) bs)))) (b ∷ bs))
-      go true e h = words_skip b bs e
-      go false e h = h
-
-  keeps_word : (n : ℕ) (b : ℕ) (bs : Bytes) (ps : List Bytes) → 0 < n → non_empty (take n (b ∷ bs) ∷ ps) ≡ take n (b ∷ bs) ∷ non_empty ps
-  keeps_word zero b bs ps h = absurd (omega arith)
-  keeps_word (suc n) b bs ps h = refl
-
-  -- the first word, and the words after it
-  pub words_cut : (bs : Bytes) → 0 < until (separates by) bs → words by bs ≡ take (until (separates by) bs) bs ∷ words by (drop (until (separates by) bs) bs)
-  words_cut [] h = absurd (omega arith)
-  words_cut (b ∷ bs) h =
-      ap non_empty (pieces_cut (separates by) b bs)
-      ∙ keeps_word (until (separates by) (b ∷ bs)) b bs (pieces (separates by) (drop (suc (until (separates by) (b ∷ bs))) (b ∷ bs))) h
-      ∙ ap (λ ws. take (until (separates by) (b ∷ bs)) (b ∷ bs) ∷ ws) (sym (words_end (b ∷ bs)))
-
-  -- what a cursor finds behind a gap g, where the next separator is n bytes on
-  pub next_none : (bs from rest : Bytes) (g n : ℕ) → g ≡ gap (separates by) bs → from ≡ drop g bs → n ≡ until (separates by) from → rest ≡ drop n from → n ≡ 0 → (words by bs ≡ []) × (words by rest ≡ [])
-  next_none bs from rest g n eg ef en er z =
-      let away : from ≡ drop (gap (separates by) bs) bs = ef ∙ ap (λ k. drop k bs) eg in
-      let ended : from ≡ [] = away ∙ gap_ends bs (ap (until (separates by)) (sym away) ∙ sym en ∙ z) in
-      (words_gap bs ∙ ap (words by) (sym away ∙ ended), ap (words by) (er ∙ ap (λ k. drop k from) z ∙ ended))
-
-  pub next_some : (bs from rest word : Bytes) (g n : ℕ) → g ≡ gap (separates by) bs → from ≡ drop g bs → n ≡ until (separates by) from → rest ≡ drop n from → word ≡ take n from → 0 < n → words by bs ≡ word ∷ words by rest
-  next_some bs from rest word g n eg ef en er ew h =
-      let away : from ≡ drop (gap (separates by) bs) bs = ef ∙ ap (λ k. drop k bs) eg in
-      words_gap bs ∙ ap (words by) (sym away) ∙ words_cut from (omega arith)
-      ∙ λ j. (ap (λ k. take k from) (sym en) ∙ sym ew) j ∷ ap (words by) (ap (λ k. drop k from) (sym en) ∙ sym er) j
-
--- a line and what follows it: the byte that ends it is dropped, if there is one
-pub line_ends : (text rest : Bytes) (n : ℕ) → rest ≡ drop n text → length rest ≡ 0 → rest ≡ drop (n + 1) text
-line_ends text rest n e z = sym (none rest z) ∙ sym (drop_all (n + 1) text (let l = length-drop n text in let k = ap length e in omega arith))
+-- each piece has a byte, or one that ends it
+pub few_pieces : (ends : ℕ → Bool) (bs : Bytes) → length (pieces ends bs) ≤ length bs
+few_pieces ends [] = omega arith
+few_pieces ends (b ∷ bs) = go (ends b) (pieces ends bs) (few_pieces ends bs)
   where
-    none : (r : Bytes) → length r ≡ 0 → [] ≡ r
-    none [] h = refl
-    none (b ∷ r) h = absurd (omega arith)
+    go : (t : Bool) (ps : List Bytes) → length ps ≤ length bs → length (byte_before t b ps) ≤ suc (length bs)
+    go true ps h = omega arith
+    go false [] h = omega arith
+    go false (p ∷ ps) h = omega arith
 
-pub line_goes_on : (text rest : Bytes) (n : ℕ) → rest ≡ drop n text → take (length rest - 1) (drop 1 rest) ≡ drop (n + 1) text
-line_goes_on text rest n e = take_rest rest 1 ∙ ap (drop 1) e ∙ drop-drop 1 n text
+-- a text that is not empty has a first piece
+pub first_piece : (ends : ℕ → Bool) (text piece rest : Bytes) → 0 < length text → piece ≡ before_first ends text → rest ≡ after_first ends text → pieces ends text ≡ piece ∷ pieces ends rest
+first_piece ends [] piece rest h e f = absurd (omega arith)
+first_piece ends (b ∷ bs) piece rest h e f = pieces_cut ends b bs ∙ λ j. sym e j ∷ pieces ends (sym f j)
 
-pub rest_shorter : (text rest : Bytes) → rest ≡ after_line text → 0 < length text → length rest < length text
-rest_shorter text rest e h = let l = length-drop (until (separates LineFeeds) text + 1) text in let k = ap length e in omega arith
+-- where a test tells the pieces that are not empty, the first that passes is the first word
+module _ {F : Type 0} (g : Mut F (Bor (Bor Bytes) × Unit {0}) Bool)
+    (fails : (f : F) (x : Bor Bytes) (h : F) → CalledAt g f x false h → length x.now ≡ 0)
+    (passes : (f : F) (x : Bor Bytes) (h : F) → CalledAt g f x true h → 0 < length x.now) where
+  abbrev words_of : Pieces → List Bytes
+  words_of p = non_empty (pieces_left p)
 
-pub lines_cut : (text line rest : Bytes) → line ≡ first_line text → rest ≡ after_line text → 0 < length text → lines text ≡ line ∷ lines rest
-lines_cut [] line rest el er h = absurd (omega arith)
-lines_cut (b ∷ bs) line rest el er h =
-    pieces_cut (separates LineFeeds) b bs
-    ∙ λ j. sym el j ∷ lines ((ap (λ k. drop k (b ∷ bs)) (sym (add-one (until (separates LineFeeds) (b ∷ bs)))) ∙ sym er) j)
+  empty_first : (w : Bytes) (ps : List Bytes) → length w ≡ 0 → non_empty (w ∷ ps) ≡ non_empty ps
+  empty_first [] ps h = refl
+  empty_first (b ∷ w) ps h = absurd (omega arith)
+
+  word_first : (w : Bytes) (ps : List Bytes) → 0 < length w → non_empty (w ∷ ps) ≡ w ∷ non_empty ps
+  word_first [] ps h = absurd (omega arith)
+  word_first (b ∷ w) ps h = refl
+
+  empty_passed : (xs : List (Bor Bytes)) (s t : Pieces) (f h : F) → Yields (YieldsFirstRef pieces_left) s xs t → FoldsTo (λ p x q. CalledAt g p x false q) f xs h → words_of s ≡ words_of t
+  empty_passed [] s t f h y c = ap words_of y
+  empty_passed (x ∷ xs) s t f h (j, e, y) (k, c, d) = ap non_empty e ∙ empty_first x.now (pieces_left j) (fails f x k c) ∙ empty_passed xs j t k h y d
+
+  pub word_found : (s u : Pieces) (f : F) (r : Option (Bor Bytes)) → FindsItem (YieldsFirstRef pieces_left) g s f r u → MatchOption r ((words_of s ≡ []) × (words_of u ≡ [])) (λ x. words_of s ≡ x.now ∷ words_of u)
+  word_found s u f None (xs, h, (t, y, e), c, d) = (empty_passed xs s t f h y c ∙ ap non_empty e.0, ap non_empty e.1)
+  word_found s u f (Some x) (xs, h, (t, y, e), c, (k, d)) = empty_passed xs s t f h y c ∙ ap non_empty e ∙ word_first x.now (pieces_left u) (passes h x k d)

@@ -1,7 +1,9 @@
 -- The pieces of a text of bytes: its lines, and the words of a line. Assumes nothing.
-use Rattle.std.specs.Prelude.{ℕ, suc, ◌+◌, Bool, true, false, cond, ◌||◌, List, [], ◌∷◌, take, drop, Some, None, Option, ◌==◌}
+use Rattle.std.specs.Prelude.{ℕ, Bool, true, false, ◌||◌, List, [], ◌∷◌, Some, None, Option, ◌==◌}
+use Rattle.std.specs.List.{before_first, after_first}
 use Rattle.scan.specs.declared.Separators.{Separators}
 use Rattle.scan.specs.declared.Separators.TheVariants.{LineFeeds, Spaces, SpacesAndCommas}
+use Rattle.scan.specs.declared.Pieces.{Pieces}
 use Rattle.scan.specs.declared.Cursor.{Cursor}
 
 abbrev pub Bytes : Type 0
@@ -47,24 +49,19 @@ non_empty ((b ∷ p) ∷ ps) = (b ∷ p) ∷ non_empty ps
 abbrev pub words : Separators → Bytes → List Bytes
 words by line = non_empty (pieces (separates by) line)
 
--- the bytes before the first that a test takes, and those at the front that it takes
-abbrev pub until : (ℕ → Bool) → Bytes → ℕ
-until test [] = 0
-until test (b ∷ bs) = cond (test b) 0 (suc (until test bs))
-
-abbrev pub gap : (ℕ → Bool) → Bytes → ℕ
-gap test [] = 0
-gap test (b ∷ bs) = cond (test b) (suc (gap test bs)) 0
-
 abbrev pub first_line : Bytes → Bytes
-first_line text = take (until (separates LineFeeds) text) text
+first_line text = before_first (separates LineFeeds) text
 
 abbrev pub after_line : Bytes → Bytes
-after_line text = drop (until (separates LineFeeds) text + 1) text
+after_line text = after_first (separates LineFeeds) text
+
+-- the pieces that are still to come
+abbrev pub pieces_left : Pieces → List Bytes
+pieces_left p = pieces (separates p.separators) p.rest.now
 
 -- the words that a cursor has still to give
 abbrev pub left : Cursor → List Bytes
-left c = words c.separators c.rest.now
+left c = words c.pieces.separators c.pieces.rest.now
 
 abbrev pub first : List Bytes → Option Bytes
 first [] = None
@@ -73,3 +70,8 @@ first (w ∷ ws) = Some w
 abbrev pub others : List Bytes → List Bytes
 others [] = []
 others (w ∷ ws) = ws
+
+-- whether the words have ended
+abbrev pub no_word : List Bytes → Bool
+no_word [] = true
+no_word (w ∷ ws) = false

@@ -1,12 +1,13 @@
 // Lines, words and decimal numbers of a text of bytes, read in place.
 #![tactic(auto)]
 
-ghost use Rattle.std.specs.Prelude.{◌≡◌, ◌+◌, ◌<◌, ◌≤◌, ◌∷◌, length, IfSome};
-ghost use Rattle.std.specs.Option.{option_map};
-ghost use Rattle.scan.specs.Pieces.{separates, until, gap, first_line, after_line, lines, words, left, first, others};
+ghost use Rattle.std.specs.Prelude.{◌≡◌, ◌<◌, ◌≤◌, ◌∷◌, length, IfSome};
+ghost use Rattle.std.specs.Iterator.{YieldsFirstRef, item_count};
+ghost use Rattle.std.specs.List.{before_first, after_first};
+ghost use Rattle.scan.specs.Pieces.{separates, pieces, first_line, after_line, lines, words, pieces_left, left, no_word};
 ghost use Rattle.scan.specs.Numbers.{decimal_of};
 
-// The bytes that end a piece of a text.
+// The bytes that end a piece of a text: an enum, so that cursors over any of them are of one type.
 #[derive(Clone, Copy)]
 pub enum Separators {
     LineFeeds,
@@ -25,30 +26,16 @@ impl Separators {
         }
     }
 
-    // How many bytes stand before the first separator.
-    fn until(self, text: &[u8]) -> usize
-        ensures value { result ≡ until (separates self) text.now }
-        ensures bound { result ≤ length text.now }
+    // The first piece without the separator that ends it, and what follows that.
+    fn split_once(self, text: &[u8]) -> (&[u8], &[u8])
+        ensures before { result.0.now ≡ before_first (separates self) text.now }
+        ensures after { result.1.now ≡ after_first (separates self) text.now }
+        ensures meaning { 0 < length text.now → pieces (separates self) text.now ≡ result.0.now ∷ pieces (separates self) result.1.now }
     {
-        for i in 0..text.len() {
-            if self.has(text[i]) {
-                return i;
-            }
+        match text.iter().position(|&byte| self.has(byte)) {
+            Some(end) => (&text[..end], &text[end + 1..]),
+            None => (text, &[]),
         }
-        text.len()
-    }
-
-    // How many separators stand at the front.
-    fn gap(self, text: &[u8]) -> usize
-        ensures value { result ≡ gap (separates self) text.now }
-        ensures bound { result ≤ length text.now }
-    {
-        for i in 0..text.len() {
-            if !self.has(text[i]) {
-                return i;
-            }
-        }
-        text.len()
     }
 }
 
@@ -59,19 +46,47 @@ pub fn split_line(text: &[u8]) -> (&[u8], &[u8])
     ensures meaning { 0 < length text.now → lines text.now ≡ result.0.now ∷ lines result.1.now }
     ensures shorter { 0 < length text.now → length result.1.now < length text.now }
 {
-    let n = Separators::LineFeeds.until(text);
-    let (line, rest) = text.split_at(n);
-    if rest.is_empty() {
-        return (line, rest);
+    Separators::LineFeeds.split_once(text)
+}
+
+// The pieces of a text that are still to come.
+#[derive(Clone, Copy)]
+pub struct Pieces<'a> {
+    rest: &'a [u8],
+    separators: Separators,
+}
+
+impl<'a> Iterator for Pieces<'a> {
+    type Item = &'a [u8];
+
+    ghost next_gives = { YieldsFirstRef pieces_left };
+
+    ghost remaining = { item_count pieces_left };
+
+    fn next(&mut self) -> Option<&'a [u8]> {
+        if self.rest.is_empty() {
+            return None;
+        }
+        let (piece, rest) = self.separators.split_once(self.rest);
+        self.rest = rest;
+        Some(piece)
     }
-    (line, &rest[1..])
+}
+
+// The lines of a text without their line feeds.
+pub fn lines(text: &[u8]) -> Pieces<'_>
+    ensures { pieces_left result ≡ lines text.now }
+{
+    Pieces {
+        rest: text,
+        separators: Separators::LineFeeds,
+    }
 }
 
 // The words of a line that are still to come.
 #[derive(Clone, Copy)]
 pub struct Cursor<'a> {
-    rest: &'a [u8],
-    separators: Separators,
+    pieces: Pieces<'a>,
 }
 
 impl<'a> Cursor<'a> {
@@ -79,25 +94,31 @@ impl<'a> Cursor<'a> {
         ensures { left result ≡ words separators line.now }
     {
         Cursor {
-            rest: line,
-            separators,
+            pieces: Pieces {
+                rest: line,
+                separators,
+            },
         }
     }
 
-    // The next word, which is then behind the cursor.
-    pub fn next(&mut self) -> Option<&'a [u8]>
-        ensures value { option_map (λ x. x.now) result ≡ first (left self.old) }
-        ensures after { left self.new ≡ others (left self.old) }
+    // Whether no word is left.
+    pub fn is_ended(mut self) -> bool
+        ensures { result ≡ no_word (left self.entry) }
     {
-        let skipped = self.separators.gap(self.rest);
-        let (_, from_word) = self.rest.split_at(skipped);
-        let n = self.separators.until(from_word);
-        let (word, rest) = from_word.split_at(n);
-        self.rest = rest;
-        if n == 0 {
-            return None;
-        }
-        Some(word)
+        self.next().is_none()
+    }
+}
+
+impl<'a> Iterator for Cursor<'a> {
+    type Item = &'a [u8];
+
+    ghost next_gives = { YieldsFirstRef left };
+
+    ghost remaining = { item_count left };
+
+    // The next word, which is then behind the cursor.
+    fn next(&mut self) -> Option<&'a [u8]> {
+        self.pieces.find(|piece| !piece.is_empty())
     }
 }
 
@@ -109,16 +130,13 @@ pub fn decimal(word: &[u8]) -> Option<u32>
     if word.is_empty() {
         return None;
     }
-    let mut n: u32 = 0;
-    for i in 0..word.len() {
-        let b = word[i];
-        if b < b'0' || b > b'9' {
+    let mut n = 0;
+    for &byte in word {
+        if !byte.is_ascii_digit() {
             return None;
         }
-        n = n * 10 + (b - b'0') as u32;
-        if n > 65535 {
-            n = 65536;
-        }
+        // It saturates, as every limit lies below.
+        n = (n * 10 + u32::from(byte - b'0')).min(65536);
     }
     Some(n)
 }

@@ -1,4 +1,2 @@
-pub mod Appends
-pub mod Operands
 pub mod Passing
 pub mod Itemizing

@@ -4,7 +4,6 @@ use Rattle.std.proofs.lemmas.List.{length-append, take_at}
 use Rattle.std.proofs.lemmas.Bool.{cond-true, cond-false}
 use Rattle.vocabulary.specs.Names.{same_word}
 use Rattle.scan.specs.Pieces.{Bytes, first_line, after_line, whole_lines}
-use Rattle.scan.proofs.Cuts.{rest_shorter}
 use Rattle.scan.proofs.Wholes.{FirstWhole, first_whole}
 use Rattle.script.specs.TextLines.{closes, text_of, behind_text, lines_passed}
 
@@ -48,9 +47,6 @@ module _ (script rest : Bytes) (lines : ℕ) (p : Passed script rest lines) wher
     same_test : same_word line (codes ".") ≡ closes w.whole
     same_test = ap (λ l. same_word l (codes ".")) (sym w.line)
 
-    shorter : length after < length rest
-    shorter = rest_shorter rest after er h
-
     pub closed : same_word line (codes ".") ≡ true → Over script (take (length script - length rest) script) after (lines + 1)
     closed t =
         let c = sym same_test ∙ t in
@@ -61,7 +57,7 @@ module _ (script rest : Bytes) (lines : ℕ) (p : Passed script rest lines) wher
               sym (p.text ∙ ap (λ l. p.front ++ text_of l) w.lines ∙ ap (λ l. p.front ++ l) (cond-true (closes w.whole) [] (w.whole ++ text_of ws) c));
           rest = sym (p.behind ∙ ap behind_text w.lines ∙ cond-true (closes w.whole) ws (behind_text ws) c);
           lines = let n = ap lines_passed w.lines ∙ cond-true (closes w.whole) 1 (suc (lines_passed ws)) c in omega (arith, p.passed);
-          bound = let s = shorter in omega (arith, p.bound);
+          bound = let s = w.shorter in omega (arith, p.bound);
         }
 
     pub goes_on : same_word line (codes ".") ≡ false → Passed script after (lines + 1)
@@ -74,5 +70,5 @@ module _ (script rest : Bytes) (lines : ℕ) (p : Passed script rest lines) wher
           text = p.text ∙ ap (λ l. p.front ++ text_of l) w.lines ∙ ap (λ l. p.front ++ l) (cond-false (closes w.whole) [] (w.whole ++ text_of ws) c) ∙ sym (append_assoc p.front w.whole (text_of ws));
           behind = p.behind ∙ ap behind_text w.lines ∙ cond-false (closes w.whole) ws (behind_text ws) c;
           passed = let n = ap lines_passed w.lines ∙ cond-false (closes w.whole) 1 (suc (lines_passed ws)) c in omega (arith, p.passed);
-          bound = let s = shorter in omega (arith, p.bound);
+          bound = let s = w.shorter in omega (arith, p.bound);
         }

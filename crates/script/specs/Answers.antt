@@ -2,7 +2,8 @@
 use Rattle.std.specs.Prelude.{ℕ, cond, List, [], ◌∷◌, ◌++◌, codes, decimal, bit_and, nat_lt, Ok}
 use Rattle.vocabulary.specs.declared.marks.Marks.{Marks}
 use Rattle.scan.specs.Pieces.{Bytes}
-use Rattle.text.specs.Faults.{Fault, Layer, text_layer, domain_layer, rule_layer, book_layer, program_layer}
+use Rattle.text.specs.Faults.{Fault}
+use Rattle.bench.specs.Faults.{layer_text}
 use Rattle.calls.specs.Bench.{Answer}
 use Rattle.domain.specs.Model.{Outcome, trap}
 
@@ -29,13 +30,6 @@ numbers_text (n ∷ ns) = (codes " " ++ decimal n) ++ numbers_text ns
 abbrev pub outcome_text : Outcome → Bytes
 outcome_text (Ok c) = codes "code " ++ decimal c
 outcome_text trap = codes "trap"
-
-abbrev pub layer_text : Layer → Bytes
-layer_text text_layer = codes "text"
-layer_text domain_layer = codes "domain"
-layer_text rule_layer = codes "rule"
-layer_text book_layer = codes "book"
-layer_text program_layer = codes "program"
 
 abbrev pub fault_text : Fault → Bytes
 fault_text f = codes "fault " ++ (decimal f.number ++ (codes " " ++ (layer_text f.layer ++ (codes " " ++ decimal f.line))))

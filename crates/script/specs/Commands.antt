@@ -1,13 +1,14 @@
 -- The words of commands: what each command is given. Assumes nothing.
 use Rattle.std.specs.Prelude.{ℕ, ◌%◌, Bool, true, false, cond, List, [], ◌∷◌, ◌++◌, Some, None, codes, Option, ◌==◌, bit_or, nat_lt}
+use Rattle.std.specs.Option.{option_map}
 use Rattle.vocabulary.specs.declared.marks.Marks.{Marks}
 use Rattle.vocabulary.specs.declared.operation.Operation.{Operation}
 use Rattle.vocabulary.specs.Names.{same_word, operation_named, operand_count, mark_named}
+use Rattle.pile.specs.declared.Blueprint.{Blueprint}
 use Rattle.pile.specs.declared.Layer.{Layer}
-use Rattle.pile.specs.declared.Layer.TheVariants.{None as NoLayer, Trap, Poison}
-use Rattle.scan.specs.Pieces.{Bytes, first, others}
+use Rattle.pile.specs.declared.Layer.TheVariants.{Trap, Poison}
+use Rattle.scan.specs.Pieces.{Bytes, first, others, no_word}
 use Rattle.scan.specs.Numbers.{decimal_of}
-use Rattle.script.specs.declared.command.Blueprint.{Blueprint}
 use Rattle.script.specs.declared.command.Computation.{Computation}
 
 abbrev pub and_then : {A B : Type 0} → Option A → (A → Option B) → Option B
@@ -33,17 +34,13 @@ layer_named name marks =
     (cond (same_word name (codes "poison")) (Some (Poison (marks_of (n % 16)))) None))
 
 -- the layer that words begin with; there is none where they have ended
-abbrev pub layer_at : List Bytes → Option Layer
-layer_at [] = Some NoLayer
+abbrev pub layer_at : List Bytes → Option (Option Layer)
+layer_at [] = Some None
 layer_at (name ∷ []) = None
-layer_at (name ∷ marks ∷ ws) = layer_named name marks
+layer_at (name ∷ marks ∷ ws) = option_map Some (layer_named name marks)
 
 abbrev pub after_layer : List Bytes → List Bytes
 after_layer ws = others (others ws)
-
-abbrev pub ended : List Bytes → Bool
-ended [] = true
-ended (w ∷ ws) = false
 
 -- `bench words W LAYER*`, at most three layers from the bottom up
 abbrev pub with_layers : ℕ → List Bytes → Option Blueprint
@@ -51,7 +48,7 @@ with_layers width ws =
     and_then (layer_at ws)
     (λ bottom. and_then (layer_at (after_layer ws))
     (λ middle. and_then (layer_at (after_layer (after_layer ws)))
-    (λ top. cond (ended (after_layer (after_layer (after_layer ws)))) (Some (record { width = width; bottom = bottom; middle = middle; top = top })) None)))
+    (λ top. cond (no_word (after_layer (after_layer (after_layer ws)))) (Some (record { width = width; layers = bottom ∷ middle ∷ top ∷ [] })) None)))
 
 abbrev pub bench_words : List Bytes → Option Blueprint
 bench_words ws = and_then (first ws) (λ w. and_then (number w) (λ width. with_layers width (others ws)))
@@ -61,7 +58,7 @@ abbrev pub bench_house : List Bytes → Option Blueprint
 bench_house ws =
     and_then (first ws)
     (λ w. and_then (number w)
-    (λ width. cond (ended (others ws)) (Some (record { width = width; bottom = Poison (marks_of 15); middle = NoLayer; top = NoLayer })) None))
+    (λ width. cond (no_word (others ws)) (Some (record { width = width; layers = Some (Poison (marks_of 15)) ∷ None ∷ None ∷ [] })) None))
 
 abbrev pub bench_command : List Bytes → Option Blueprint
 bench_command ws =
@@ -75,7 +72,7 @@ two_numbers op marks w ws =
     and_then (number w)
     (λ a. and_then (first ws)
     (λ v. and_then (number v)
-    (λ b. cond (ended (others ws)) (Some (record { operation = op; marks = marks_of marks; first = a; second = b })) None)))
+    (λ b. cond (no_word (others ws)) (Some (record { operation = op; marks = marks_of marks; first = a; second = b })) None)))
 
 abbrev pub by_mark : Option Marks → (ℕ → Option Computation) → Option Computation → Option Computation
 by_mark (Some m) marked other = marked m.bits
@@ -110,6 +107,16 @@ with_choices ins ws = and_then (numbers [] ws) (λ cs. Some (record { inputs = i
 abbrev pub with_inputs : List ℕ → List Bytes → Option Given
 with_inputs ins [] = None
 with_inputs ins (w ∷ ws) = cond (same_word w (codes "/")) (with_choices ins ws) (and_then (number w) (λ n. with_inputs (ins ++ (n ∷ [])) ws))
+
+-- numbers where no word ended them
+abbrev pub unended : List ℕ → Option Bytes → Option (List ℕ)
+unended ns None = Some ns
+unended ns (Some w) = None
+
+-- first inputs where a word ended them, if that is the `/` before choices
+abbrev pub inputs_before : List ℕ → Option Bytes → List Bytes → Option Given
+inputs_before ins None ws = None
+inputs_before ins (Some w) ws = cond (same_word w (codes "/")) (with_choices ins ws) None
 
 abbrev pub evaluate_command : List Bytes → Option Given
 evaluate_command ws = with_inputs [] ws

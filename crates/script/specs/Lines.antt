@@ -2,16 +2,16 @@
 use Rattle.std.specs.Prelude.{cond, ◌&&◌, List, [], ◌∷◌, Some, None, vec_items, codes, Option, ◌==◌, slice_index}
 use Rattle.std.specs.Option.{option_map}
 use Rattle.vocabulary.specs.Names.{same_word}
+use Rattle.pile.specs.declared.Blueprint.{Blueprint}
 use Rattle.scan.specs.declared.Separators.TheVariants.{Spaces}
-use Rattle.scan.specs.Pieces.{Bytes, words}
+use Rattle.scan.specs.Pieces.{Bytes, words, no_word}
 use Rattle.script.specs.declared.command.Arguments.{Arguments}
-use Rattle.script.specs.declared.command.Blueprint.{Blueprint}
 use Rattle.script.specs.declared.command.Command.{Command}
 use Rattle.script.specs.declared.command.Command.TheVariants.{Bench, Compute, Load, Evaluate, Show}
 use Rattle.script.specs.declared.command.Computation.{Computation}
 use Rattle.script.specs.declared.command.Line.{Line}
 use Rattle.script.specs.declared.command.Line.TheVariants.{Skipped, Obeyed, Unreadable}
-use Rattle.script.specs.Commands.{Given, ended, bench_command, compute_command, evaluate_command}
+use Rattle.script.specs.Commands.{Given, bench_command, compute_command, evaluate_command}
 
 pub data Order : Type 0 where
   bench : Blueprint → Order
@@ -43,8 +43,8 @@ abbrev pub plain_order : Bytes → List Bytes → Option Order
 plain_order name ws =
     cond (same_word name (codes "bench")) (option_map bench (bench_command ws))
     (cond (same_word name (codes "compute")) (option_map compute (compute_command ws))
-    (cond (same_word name (codes "load") && ended ws) (Some load)
-    (cond (same_word name (codes "show") && ended ws) (Some show) None)))
+    (cond (same_word name (codes "load") && no_word ws) (Some load)
+    (cond (same_word name (codes "show") && no_word ws) (Some show) None)))
 
 abbrev pub order_named : Bytes → List Bytes → Option Order
 order_named name ws = cond (same_word name (codes "evaluate")) (option_map evaluate (evaluate_command ws)) (plain_order name ws)

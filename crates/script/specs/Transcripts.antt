@@ -1,11 +1,11 @@
 -- What a script does, item by item, and all that is printed for it. Assumes nothing.
-use Rattle.std.specs.Prelude.{ℕ, Bool, cond, ◌&&◌, List, [], ◌∷◌, ◌++◌, Some, None, codes, decimal, Option, nat_le}
+use Rattle.std.specs.Prelude.{ℕ, Bool, cond, ◌&&◌, List, [], ◌∷◌, ◌++◌, Some, None, Ok, Err, codes, decimal, Option, Result, nat_le}
 use Rattle.std.specs.Option.{option_map}
 use Rattle.vocabulary.specs.declared.marks.Marks.{Marks}
 use Rattle.domain.specs.Faults.{fault_number}
 use Rattle.domain.specs.Model.{Model, Outcome}
-use Rattle.words.specs.Words.{words}
-use Rattle.pile.specs.Piles.{over, pile_model}
+use Rattle.pile.specs.declared.Blueprint.{Blueprint}
+use Rattle.pile.specs.Piles.{pile_model, blueprint_model}
 use Rattle.scan.specs.Pieces.{Bytes}
 use Rattle.text.specs.Faults.{Fault, fault}
 use Rattle.calls.specs.Bench.{State, Call, Answer as CallAnswer}
@@ -13,8 +13,9 @@ use Rattle.calls.specs.Histories.{fresh, answer, next}
 use Rattle.bench.specs.Faults.{bench_fault}
 use Rattle.bench.specs.States.{state}
 use Rattle.script.specs.declared.answer.Answer.{Answer}
-use Rattle.script.specs.declared.answer.Answer.TheVariants.{Bench, Computed, Loaded, Evaluated, Shown, NoBench, Refused, ScriptError}
-use Rattle.script.specs.declared.command.Blueprint.{Blueprint}
+use Rattle.script.specs.declared.answer.Answer.TheVariants.{Bench, Computed, Loaded, Evaluated, Shown}
+use Rattle.script.specs.declared.answer.Refusal.{Refusal}
+use Rattle.script.specs.declared.answer.Refusal.TheVariants.{NoBench, Refused, ScriptError}
 use Rattle.script.specs.declared.command.Computation.{Computation}
 use Rattle.script.specs.declared.interpreter.Interpreter.{Interpreter}
 use Rattle.script.specs.Lines.{Order, bench, compute, evaluate, load, show, Ordered, skipped, unreadable, obeyed}
@@ -47,16 +48,19 @@ abbrev pub present : Current → State
 present None = fresh
 present (Some h) = h.state
 
+abbrev pub refusal_seen : Refusal → Told
+refusal_seen (NoBench f) = no_bench (fault (fault_number f) 0)
+refusal_seen (Refused f) = called (CallAnswer.refused (bench_fault f))
+refusal_seen (ScriptError line) = script_error line
+
 -- an answer, where `show` finds a state
-abbrev pub answer_seen : State → Answer → Told
-answer_seen st (Bench size) = made size
-answer_seen st (Computed o broken) = computed o broken
-answer_seen st Loaded = called CallAnswer.loaded
-answer_seen st (Evaluated o) = called (CallAnswer.evaluated o)
-answer_seen st Shown = shown st
-answer_seen st (NoBench f) = no_bench (fault (fault_number f) 0)
-answer_seen st (Refused f) = called (CallAnswer.refused (bench_fault f))
-answer_seen st (ScriptError line) = script_error line
+abbrev pub answer_seen : State → Result Answer Refusal → Told
+answer_seen st (Ok (Bench size)) = made size
+answer_seen st (Ok (Computed o broken)) = computed o broken
+answer_seen st (Ok Loaded) = called CallAnswer.loaded
+answer_seen st (Ok (Evaluated o)) = called (CallAnswer.evaluated o)
+answer_seen st (Ok Shown) = shown st
+answer_seen st (Err r) = refusal_seen r
 
 abbrev pub told_text : Told → Bytes
 told_text (made size) = codes "bench " ++ decimal size
@@ -70,10 +74,6 @@ told_text (script_error line) = codes "script error " ++ decimal line
 pub record Step (A : Type 0) : Type 0 where
   pub answer : A
   pub after : Current
-
--- the model that a `bench` command names
-abbrev pub blueprint_model : Blueprint → Model
-blueprint_model b = over (over (over (words b.width) b.bottom) b.middle) b.top
 
 -- a width is 1 to 8
 abbrev pub width_fits : ℕ → Bool

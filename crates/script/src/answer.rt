@@ -1,20 +1,23 @@
 // What a script is told for a line.
-ghost use Rattle.std.specs.Prelude.{◌≡◌, ◌++◌, string_bytes, OnOk};
+ghost use Rattle.std.specs.Prelude.{◌≡◌, Some};
 ghost use Rattle.std.specs.Option.{option_map};
 ghost use Rattle.program.specs.View.{view as table_view};
+ghost use Rattle.script.specs.declared.answer.Refusal.TheVariants.{NoBench, Refused};
 ghost use Rattle.bench.specs.Faults.{layer_seen};
-ghost use Rattle.script.specs.Answers.{mark_text, written_marks_text, marks_text, outcome_text, layer_text, fault_text, computed_text};
+ghost use Rattle.script.specs.Answers.{fault_text, outcome_text};
 ghost use Rattle.script.specs.Shows.{without_rules};
-ghost use Rattle.script.specs.Transcripts.{answer_seen, told_text};
+ghost use Rattle.script.specs.Transcripts.{refusal_seen, answer_seen, told_text};
 
-use crate::show::write_present;
+use crate::marks::AllMarks;
+use crate::show::Present;
 use bench::fault::{BenchFault, FaultLayer};
 use domain::fault::DomainFault;
 use domain::{Outcome, Trapped};
 use program::table::Table;
-use std::alloc::AllocError;
+use std::fmt;
 use vocabulary::marks::Marks;
 
+// What an obeyed command gives.
 #[derive(Clone, Copy)]
 pub enum Answer {
     // a bench was made, over a domain of so many codes
@@ -25,6 +28,11 @@ pub enum Answer {
     Evaluated(Outcome),
     // the present program and the book
     Shown,
+}
+
+// Why a line is not obeyed.
+#[derive(Clone, Copy, PartialEq, Debug)]
+pub enum Refusal {
     // there is no such domain to make a bench over
     NoBench(DomainFault),
     Refused(BenchFault),
@@ -32,89 +40,104 @@ pub enum Answer {
     ScriptError(u64),
 }
 
-fn write_mark(out: &mut String, marks: Marks, mark: Marks, name: &str) -> Result<(), AllocError>
-    ensures { OnOk result (string_bytes out.new ≡ string_bytes out.old ++ mark_text marks mark name.now) }
-{
-    if marks.meets(mark) {
-        write!(out, " {name}")?;
-    }
-    Ok(())
-}
+impl From<DomainFault> for Refusal {
+    ghost from_gives = { λ e r. r ≡ NoBench e };
 
-// The marks of a set that can be written, from the smallest number up.
-pub fn write_written_marks(out: &mut String, marks: Marks) -> Result<(), AllocError>
-    ensures { OnOk result (string_bytes out.new ≡ string_bytes out.old ++ written_marks_text marks) }
-{
-    write_mark(out, marks, Marks::NUW, "nuw")?;
-    write_mark(out, marks, Marks::NSW, "nsw")?;
-    write_mark(out, marks, Marks::EXACT, "exact")
-}
-
-// All marks of a set, from the smallest number up.
-fn write_marks(out: &mut String, marks: Marks) -> Result<(), AllocError>
-    ensures { OnOk result (string_bytes out.new ≡ string_bytes out.old ++ marks_text marks) }
-{
-    write_written_marks(out, marks)?;
-    write_mark(out, marks, Marks::RANGE, "range")
-}
-
-fn write_outcome(out: &mut String, outcome: Outcome) -> Result<(), AllocError>
-    ensures { OnOk result (string_bytes out.new ≡ string_bytes out.old ++ outcome_text outcome) }
-{
-    match outcome {
-        Ok(code) => write!(out, "code {code}"),
-        Err(Trapped) => write!(out, "trap"),
+    fn from(e: DomainFault) -> Refusal {
+        Refusal::NoBench(e)
     }
 }
 
-fn write_computed(out: &mut String, outcome: Outcome, broken: Marks) -> Result<(), AllocError>
-    ensures { OnOk result (string_bytes out.new ≡ string_bytes out.old ++ computed_text outcome broken) }
-{
-    write_outcome(out, outcome)?;
-    write!(out, " breaks")?;
-    write_marks(out, broken)
-}
+impl From<BenchFault> for Refusal {
+    ghost from_gives = { λ e r. r ≡ Refused e };
 
-fn layer_name(layer: FaultLayer) -> &'static str
-    ensures { result.now ≡ layer_text (layer_seen layer) }
-{
-    match layer {
-        FaultLayer::Text => "text",
-        FaultLayer::Domain => "domain",
-        FaultLayer::Rule => "rule",
-        FaultLayer::Book => "book",
-        FaultLayer::Program => "program",
+    fn from(e: BenchFault) -> Refusal {
+        Refusal::Refused(e)
     }
 }
 
-fn write_refusal(
-    out: &mut String,
+// A fault as every refusal tells it.
+#[derive(Clone, Copy)]
+struct Fault {
     number: u8,
     layer: FaultLayer,
     line: u16,
-) -> Result<(), AllocError>
-    ensures { OnOk result (string_bytes out.new ≡ string_bytes out.old ++ fault_text (record { number = number; layer = layer_seen layer; line = line })) }
-{
-    let name = layer_name(layer);
-    write!(out, "fault {number} {name} {line}")
 }
 
-// Writes an answer at the end of a text, without a line feed; `program` is the present one.
-pub fn write_answer(
-    out: &mut String,
-    answer: Answer,
-    program: Option<&Table>,
-) -> Result<(), AllocError>
-    ensures { OnOk result (string_bytes out.new ≡ string_bytes out.old ++ told_text (answer_seen (without_rules (option_map (λ t. table_view t.now) program.entry)) answer)) }
-{
-    match answer {
-        Answer::Bench(size) => write!(out, "bench {size}"),
-        Answer::Computed(outcome, broken) => write_computed(out, outcome, broken),
-        Answer::Loaded => write!(out, "loaded"),
-        Answer::Evaluated(outcome) => write_outcome(out, outcome),
-        Answer::Shown => write_present(out, program),
-        Answer::NoBench(fault) => write_refusal(out, fault.number(), FaultLayer::Domain, 0),
-        Answer::Refused(fault) => write_refusal(out, fault.number(), fault.layer(), fault.line()),
-        Answer::ScriptError(line) => write!(out, "script error {line}"),
+impl fmt::Display for Fault {
+    ghost output = { λ x. Some (fault_text (record { number = x.number; layer = layer_seen x.layer; line = x.line })) };
+
+    fn fmt<W: fmt::Write>(&self, f: &mut fmt::Formatter<W>) -> fmt::Result {
+        let Fault {
+            number,
+            layer,
+            line,
+        } = *self;
+        write!(f, "fault {number} {layer} {line}")
+    }
+}
+
+impl fmt::Display for Refusal {
+    ghost output = { λ r. Some (told_text (refusal_seen r)) };
+
+    fn fmt<W: fmt::Write>(&self, f: &mut fmt::Formatter<W>) -> fmt::Result {
+        match self {
+            Refusal::NoBench(fault) => {
+                let told = Fault {
+                    number: fault.number(),
+                    layer: FaultLayer::Domain,
+                    line: 0,
+                };
+                write!(f, "{told}")
+            }
+            Refusal::Refused(fault) => {
+                let told = Fault {
+                    number: fault.number(),
+                    layer: fault.layer(),
+                    line: fault.line(),
+                };
+                write!(f, "{told}")
+            }
+            Refusal::ScriptError(line) => write!(f, "script error {line}"),
+        }
+    }
+}
+
+// A code, or that there is none.
+#[derive(Clone, Copy)]
+struct Ended(Outcome);
+
+impl fmt::Display for Ended {
+    ghost output = { λ o. Some (outcome_text o.0) };
+
+    fn fmt<W: fmt::Write>(&self, f: &mut fmt::Formatter<W>) -> fmt::Result {
+        match self.0 {
+            Ok(code) => write!(f, "code {code}"),
+            Err(Trapped) => write!(f, "trap"),
+        }
+    }
+}
+
+// What is printed for a line, without a line feed; `program` is the present one.
+#[derive(Clone, Copy)]
+pub struct Told<'a> {
+    pub answer: Result<Answer, Refusal>,
+    pub program: Option<&'a Table>,
+}
+
+impl fmt::Display for Told<'_> {
+    ghost output = { λ t. Some (told_text (answer_seen (without_rules (option_map (λ p. table_view p.now) t.program)) t.answer)) };
+
+    fn fmt<W: fmt::Write>(&self, f: &mut fmt::Formatter<W>) -> fmt::Result {
+        match self.answer {
+            Ok(Answer::Bench(size)) => write!(f, "bench {size}"),
+            Ok(Answer::Computed(outcome, broken)) => {
+                write!(f, "{} breaks{}", Ended(outcome), AllMarks(broken))
+            }
+            Ok(Answer::Loaded) => write!(f, "loaded"),
+            Ok(Answer::Evaluated(outcome)) => write!(f, "{}", Ended(outcome)),
+            Ok(Answer::Shown) => write!(f, "{}", Present(self.program)),
+            Err(refusal) => write!(f, "{refusal}"),
+        }
     }
 }

@@ -1,34 +1,25 @@
 // The commands of a script, a line each.
-ghost use Rattle.std.specs.Prelude.{◌≡◌, IfOk, ◌==◌, slice_index};
+ghost use Rattle.std.specs.Prelude.{◌≡◌, ◌+◌, ◌≤◌, [], length, if◌then◌else◌, IfOk, ◌==◌, slice_index};
 ghost use Rattle.std.specs.Option.{option_map};
-ghost use Rattle.scan.specs.Pieces.{left};
+ghost use Rattle.scan.specs.Pieces.{left, whole_lines};
 ghost use Rattle.script.specs.Items.{has_text};
 ghost use Rattle.script.specs.Lines.{order_seen, line_seen, plain_order, order_named, line_read};
+ghost use Rattle.script.specs.TextLines.{text_of, behind_text, lines_passed};
 
+use crate::texts::{Text, split_text};
 use benches::bench_command;
 use computing::compute_command;
 use evaluating::evaluate_command;
-use number::is_ended;
-use pile::Layer;
+use pile::Blueprint;
 use scan::{Cursor, Separators};
 use std::alloc::{AllocError, Global};
 use vocabulary::marks::Marks;
-use vocabulary::name::is_word;
 use vocabulary::operation::Operation;
 
 mod benches;
 mod computing;
 mod evaluating;
 mod number;
-
-// Words of a width under up to three layers, from the bottom up.
-#[derive(Clone, Copy)]
-pub struct Blueprint {
-    pub width: u16,
-    pub bottom: Layer,
-    pub middle: Layer,
-    pub top: Layer,
-}
 
 // An operation on two numbers.
 #[derive(Clone, Copy)]
@@ -56,7 +47,7 @@ pub enum Command {
     Show,
 }
 
-// What a line of a script is.
+// What a line of a script is. Not an option of a result: `read_line` would answer one inside another result, for want of memory.
 #[derive(Drop)]
 pub enum Line {
     Skipped,
@@ -65,28 +56,38 @@ pub enum Line {
 }
 
 impl Line {
-    // Whether a text follows.
-    pub fn has_text(&self) -> bool
-        ensures { result ≡ has_text (line_seen self.now) }
+    // The text at the front of the script behind the line, if the line wants one, and otherwise none of it.
+    pub fn text_in<'a>(&self, script: &'a [u8]) -> Text<'a>
+        ensures bytes { result.bytes.now ≡ (if has_text (line_seen self.now) then text_of (whole_lines script.now) else []) }
+        ensures rest { whole_lines result.rest.now ≡ (if has_text (line_seen self.now) then behind_text (whole_lines script.now) else whole_lines script.now) }
+        ensures lines { result.lines ≡ (if has_text (line_seen self.now) then lines_passed (whole_lines script.now) else 0) }
+        ensures bound { result.lines + length result.rest.now ≤ length script.now }
     {
-        matches!(self, Line::Obeyed(Command::Load))
+        match self {
+            Line::Obeyed(Command::Load) => split_text(script),
+            _ => Text {
+                bytes: b"",
+                rest: script,
+                lines: 0,
+            },
+        }
     }
 }
 
-// The commands that hold no list.
+// The commands that hold no list. Names are tested one by one: a `match` on byte strings leaves its proof open.
 fn plain_command(name: &[u8], words: Cursor) -> Option<Command>
     ensures { option_map order_seen result ≡ plain_order name.now (left words.entry) }
 {
-    if is_word(name, b"bench") {
-        return Some(Command::Bench(bench_command(words)?));
+    if name == b"bench".as_slice() {
+        return bench_command(words).map(Command::Bench);
     }
-    if is_word(name, b"compute") {
-        return Some(Command::Compute(compute_command(words)?));
+    if name == b"compute".as_slice() {
+        return compute_command(words).map(Command::Compute);
     }
-    if is_word(name, b"load") && is_ended(words) {
+    if name == b"load".as_slice() && words.is_ended() {
         return Some(Command::Load);
     }
-    if is_word(name, b"show") && is_ended(words) {
+    if name == b"show".as_slice() && words.is_ended() {
         return Some(Command::Show);
     }
     None
@@ -95,13 +96,10 @@ fn plain_command(name: &[u8], words: Cursor) -> Option<Command>
 fn read_command(heap: Global, name: &[u8], words: Cursor) -> Result<Option<Command>, AllocError>
     ensures { IfOk result (λ o. option_map order_seen o ≡ order_named name.now (left words.entry)) }
 {
-    if !is_word(name, b"evaluate") {
+    if name != b"evaluate".as_slice() {
         return Ok(plain_command(name, words));
     }
-    match evaluate_command(heap, words)? {
-        Some(arguments) => Ok(Some(Command::Evaluate(arguments))),
-        None => Ok(None),
-    }
+    Ok(evaluate_command(heap, words)?.map(Command::Evaluate))
 }
 
 // What a line commands; one without a word, or whose first word begins with `#`, is skipped.
@@ -124,8 +122,5 @@ pub fn read_line(heap: Global, line: &[u8]) -> Result<Line, AllocError>
 fn begins_comment(word: &[u8]) -> bool
     ensures { result ≡ (slice_index word.now 0 == 35) }
 {
-    if word.is_empty() {
-        return false;
-    }
-    word[0] == b'#'
+    word.first() == Some(&b'#')
 }

@@ -1,18 +1,18 @@
 // Works through a script item by item.
-ghost use Rattle.std.specs.Prelude.{◌≡◌, ◌++◌, None, string_bytes, OnOk};
+ghost use Rattle.std.specs.Prelude.{◌≡◌, None};
 ghost use Rattle.std.specs.Option.{option_map};
 ghost use Rattle.calls.specs.Bench.{Call};
 ghost use Rattle.program.specs.View.{view as table_view};
 ghost use Rattle.script.specs.Lines.{order_seen, line_seen, arguments_seen};
-ghost use Rattle.script.specs.Transcripts.{view, present, answer_seen, told_text, make_bench, compute_at, call_at, show_at, obey, step_of};
+ghost use Rattle.script.specs.Shows.{without_rules};
+ghost use Rattle.script.specs.Transcripts.{view, present, answer_seen, make_bench, compute_at, call_at, show_at, obey, step_of};
 
-use crate::answer::{Answer, write_answer};
-use crate::command::{Arguments, Blueprint, Command, Computation, Line};
+use crate::answer::{Answer, Refusal, Told};
+use crate::command::{Arguments, Command, Computation, Line};
 use bench::bench::Bench;
 use domain::Domain;
-use pile::{Pile, build};
+use pile::{Blueprint, Pile};
 use program::table::Table;
-use std::alloc::AllocError;
 
 // The bench that the last accepted `bench` made.
 #[derive(Drop)]
@@ -28,79 +28,56 @@ impl Interpreter {
     }
 
     // A refused bench keeps the former one.
-    fn make_bench(&mut self, blueprint: Blueprint) -> Answer
+    fn make_bench(&mut self, blueprint: Blueprint) -> Result<Answer, Refusal>
         ensures value { answer_seen (present (view self.new)) result ≡ (make_bench (view self.old) blueprint).answer }
         ensures after { view self.new ≡ (make_bench (view self.old) blueprint).after }
     {
-        match build(
-            blueprint.width,
-            blueprint.bottom,
-            blueprint.middle,
-            blueprint.top,
-        ) {
-            Ok(pile) => {
-                let size = pile.size();
-                self.bench = Some(Bench::new(pile));
-                Answer::Bench(size)
-            }
-            Err(fault) => Answer::NoBench(fault),
-        }
+        let pile = blueprint.build()?;
+        let size = pile.size();
+        self.bench = Some(Bench::new(pile));
+        Ok(Answer::Bench(size))
     }
 
-    fn compute(&self, number: u64, asked: Computation) -> Answer
+    fn compute(&self, number: u64, asked: Computation) -> Result<Answer, Refusal>
         ensures { answer_seen (present (view self.now)) result ≡ compute_at (view self.now) number asked }
     {
-        let Some(bench) = &self.bench else {
-            return Answer::ScriptError(number);
-        };
+        let bench = self.bench.as_ref().ok_or(Refusal::ScriptError(number))?;
         let domain = bench.domain();
         let outcome = domain.compute(asked.operation, asked.marks, asked.first, asked.second);
-        Answer::Computed(
-            outcome,
-            domain.broken(asked.operation, asked.first, asked.second),
-        )
+        let broken = domain.broken(asked.operation, asked.first, asked.second);
+        Ok(Answer::Computed(outcome, broken))
     }
 
-    // The bench is taken out, and put back with what the text left in it.
-    fn load(&mut self, number: u64, text: &[u8]) -> Answer
+    // A refused text keeps the former program.
+    fn load(&mut self, number: u64, text: &[u8]) -> Result<Answer, Refusal>
         ensures value { answer_seen (present (view self.new)) result ≡ (call_at (view self.old) number (Call.load text.now)).answer }
         ensures after { view self.new ≡ (call_at (view self.old) number (Call.load text.now)).after }
     {
-        let Some(mut bench) = self.bench.take() else {
-            return Answer::ScriptError(number);
-        };
-        let loaded = bench.load(text);
-        self.bench = Some(bench);
-        match loaded {
-            Ok(()) => Answer::Loaded,
-            Err(fault) => Answer::Refused(fault),
-        }
+        let bench = self.bench.as_mut().ok_or(Refusal::ScriptError(number))?;
+        bench.load(text)?;
+        Ok(Answer::Loaded)
     }
 
     // The bench stays as it is, which is its state after the call.
-    fn evaluate(&self, number: u64, arguments: Arguments) -> Answer
+    fn evaluate(&self, number: u64, arguments: Arguments) -> Result<Answer, Refusal>
         ensures value { answer_seen (present (view self.now)) result ≡ (call_at (view self.now) number (Call.evaluate (arguments_seen arguments).inputs (arguments_seen arguments).choices)).answer }
         ensures after { view self.now ≡ (call_at (view self.now) number (Call.evaluate (arguments_seen arguments).inputs (arguments_seen arguments).choices)).after }
     {
-        let Some(bench) = &self.bench else {
-            return Answer::ScriptError(number);
-        };
-        match bench.evaluate(arguments.inputs.as_slice(), arguments.choices.as_slice()) {
-            Ok(outcome) => Answer::Evaluated(outcome),
-            Err(fault) => Answer::Refused(fault),
-        }
+        let bench = self.bench.as_ref().ok_or(Refusal::ScriptError(number))?;
+        let outcome = bench.evaluate(arguments.inputs.as_slice(), arguments.choices.as_slice())?;
+        Ok(Answer::Evaluated(outcome))
     }
 
-    fn show(&self, number: u64) -> Answer
+    fn show(&self, number: u64) -> Result<Answer, Refusal>
         ensures { answer_seen (present (view self.now)) result ≡ show_at (view self.now) number }
     {
         match &self.bench {
-            Some(_) => Answer::Shown,
-            None => Answer::ScriptError(number),
+            Some(_) => Ok(Answer::Shown),
+            None => Err(Refusal::ScriptError(number)),
         }
     }
 
-    fn obey(&mut self, number: u64, command: Command, text: &[u8]) -> Answer
+    fn obey(&mut self, number: u64, command: Command, text: &[u8]) -> Result<Answer, Refusal>
         ensures value { answer_seen (present (view self.new)) result ≡ (obey (view self.old) number (order_seen command) text.now).answer }
         ensures after { view self.new ≡ (obey (view self.old) number (order_seen command) text.now).after }
     {
@@ -114,13 +91,13 @@ impl Interpreter {
     }
 
     // What the line of a number is answered, with the text that follows it; a skipped line has no answer.
-    pub fn step(&mut self, number: u64, line: Line, text: &[u8]) -> Option<Answer>
+    pub fn step(&mut self, number: u64, line: Line, text: &[u8]) -> Option<Result<Answer, Refusal>>
         ensures value { option_map (answer_seen (present (view self.new))) result ≡ (step_of (view self.old) number (line_seen line) text.now).answer }
         ensures after { view self.new ≡ (step_of (view self.old) number (line_seen line) text.now).after }
     {
         match line {
             Line::Skipped => None,
-            Line::Unreadable => Some(Answer::ScriptError(number)),
+            Line::Unreadable => Some(Err(Refusal::ScriptError(number))),
             Line::Obeyed(command) => Some(self.obey(number, command, text)),
         }
     }
@@ -129,16 +106,17 @@ impl Interpreter {
     fn program(&self) -> Option<&Table>
         ensures { option_map (λ t. table_view t.now) result ≡ (present (view self.now)).loaded }
     {
-        match &self.bench {
-            Some(bench) => bench.program(),
-            None => None,
-        }
+        self.bench.as_ref()?.program()
     }
 
-    // Writes an answer to what it was just asked.
-    pub fn write(&self, out: &mut String, answer: Answer) -> Result<(), AllocError>
-        ensures { OnOk result (string_bytes out.new ≡ string_bytes out.old ++ told_text (answer_seen (present (view self.now)) answer)) }
+    // What is printed for an answer to what it was just asked.
+    pub fn told(&self, answer: Result<Answer, Refusal>) -> Told<'_>
+        ensures answer { result.answer ≡ answer }
+        ensures program { without_rules (option_map (λ t. table_view t.now) result.program) ≡ present (view self.now) }
     {
-        write_answer(out, answer, self.program())
+        Told {
+            answer,
+            program: self.program(),
+        }
     }
 }

@@ -1,10 +1,9 @@
 // Texts that follow a command.
-ghost use Rattle.std.specs.Prelude.{◌≡◌, ◌+◌, ◌≤◌, [], length, if◌then◌else◌};
+ghost use Rattle.std.specs.Prelude.{◌≡◌, ◌+◌, ◌≤◌, length};
 ghost use Rattle.scan.specs.Pieces.{whole_lines};
 ghost use Rattle.script.specs.TextLines.{text_of, behind_text, lines_passed};
 
 use scan::split_line;
-use vocabulary::name::is_word;
 
 // A text, what follows it, and how many lines it takes with the one that closes it.
 #[derive(Clone, Copy)]
@@ -23,10 +22,11 @@ pub fn split_text(script: &[u8]) -> Text<'_>
 {
     let mut rest = script;
     let mut lines: u64 = 0;
+    // Not by `lines`, as what is left tells where the text ends.
     while !rest.is_empty() {
         let (line, after) = split_line(rest);
         lines += 1;
-        if is_word(line, b".") {
+        if line == b".".as_slice() {
             let (bytes, _) = script.split_at(script.len() - rest.len());
             return Text {
                 bytes,
@@ -40,22 +40,5 @@ pub fn split_text(script: &[u8]) -> Text<'_>
         bytes: script,
         rest,
         lines,
-    }
-}
-
-// The text at the front of a script where one is wanted, and otherwise none of the script.
-pub fn split_text_if(wanted: bool, script: &[u8]) -> Text<'_>
-    ensures bytes { result.bytes.now ≡ (if wanted then text_of (whole_lines script.now) else []) }
-    ensures rest { whole_lines result.rest.now ≡ (if wanted then behind_text (whole_lines script.now) else whole_lines script.now) }
-    ensures lines { result.lines ≡ (if wanted then lines_passed (whole_lines script.now) else 0) }
-    ensures bound { result.lines + length result.rest.now ≤ length script.now }
-{
-    if wanted {
-        return split_text(script);
-    }
-    Text {
-        bytes: b"",
-        rest: script,
-        lines: 0,
     }
 }

@@ -1,9 +1,11 @@
 -- A run by one instruction after the other, its values and choices in lists. Assumes nothing.
-use Rattle.std.proofs.Common.{◌≡◌, ℕ, zero, suc, ◌+◌, ◌<◌, ◌≤◌, Bool, true, false, cond, eqb, List, [], ◌∷◌, length, get_or, drop, set, replicate, sym, refl, ap, ◌∙◌, ⊎_elim, arith}
+use Rattle.std.proofs.Common.{◌≡◌, ℕ, zero, suc, ◌+◌, ◌<◌, ◌≤◌, Bool, true, false, cond, eqb, List, [], ◌∷◌, length, get_or, drop, set, replicate, sym, refl, ap, ◌∙◌, ⊎_elim, arith, Ok}
 use mathlib.Core.Path.{fun_ext}
 use Rattle.std.proofs.lemmas.Bool.{cond_both, cond-true, cond-false, eqb-true, eqb-false, cases_lt}
 use Rattle.std.proofs.lemmas.List.{get_or-set_same, get_or-set_other, drop_all, get_or_past, get_or-replicate, length-replicate}
-use Rattle.semantics.specs.Programs.{put, head, tail, left, is_freeze, nothing_yet}
+use Rattle.domain.specs.Model.{Model, Outcome}
+use Rattle.semantics.specs.Programs.{Env, put, value, step, head, tail, left, is_freeze, and_then, run, nothing_yet}
+use Rattle.semantics.specs.Runs.{RunsOn}
 use Rattle.semantics.specs.Values.{env}
 use Rattle.semantics.specs.declared.Instruction.{Instruction}
 
@@ -17,30 +19,15 @@ put_set values at v h = fun_ext (λ k. cond_both (eqb k at) v (get_or values k 0
 pub zeros : (n : ℕ) → env (replicate n 0) ≡ nothing_yet
 zeros n = fun_ext (λ k. ⊎_elim (λ h. get_or-replicate n k 0 0 h) (λ h. get_or_past (replicate n 0) k 0 (omega (arith, length-replicate {A = ℕ} n 0))) (cases_lt k n))
 
--- the choice at hand where some are used up
-pub head_drop : (cs : List ℕ) (n : ℕ) → head (drop n cs) ≡ get_or cs n 0
-head_drop [] zero = refl
-head_drop [] (suc n) = refl
-head_drop (c ∷ cs) zero = refl
-head_drop (c ∷ cs) (suc n) = head_drop cs n
-
-tail_drop : (cs : List ℕ) (n : ℕ) → tail (drop n cs) ≡ drop (suc n) cs
-tail_drop [] zero = refl
-tail_drop [] (suc n) = refl
-tail_drop (c ∷ cs) zero = refl
-tail_drop (c ∷ cs) (suc n) = tail_drop cs n
-
--- the choices left after an instruction, by how many are used up
-pub takes_one : (i : Instruction) (cs : List ℕ) (used : ℕ) → is_freeze i ≡ true → drop (used + 1) cs ≡ left i (drop used cs)
-takes_one i cs used e =
-    let s : used + 1 ≡ suc used = omega arith in
-    ap (λ k. drop k cs) s ∙ sym (tail_drop cs used) ∙ sym (cond-true (is_freeze i) (tail (drop used cs)) (drop used cs) e)
-
-pub keeps_all : (i : Instruction) (cs : List ℕ) (used : ℕ) → is_freeze i ≡ false → drop used cs ≡ left i (drop used cs)
-keeps_all i cs used e = sym (cond-false (is_freeze i) (tail (drop used cs)) (drop used cs) e)
-
-pub takes_none : (i : Instruction) (cs : List ℕ) (used : ℕ) → length cs ≤ used → drop used cs ≡ left i (drop used cs)
-takes_none i cs used h = let e = drop_all used cs h in e ∙ sym (ap (left i) e ∙ nothing (is_freeze i))
+-- an instruction that gave a code: what stands behind it runs on from there
+pub runs_on :
+    (m : Model) (ins : List ℕ) (at : ℕ) (i : Instruction) (values cs ds : List ℕ) (choice v : ℕ) (u : Unit {0}) → at < length values → choice ≡ head cs → Ok v ≡ step m (value ins (env values)) i choice →
+    ds ≡ left i cs → RunsOn m ins (record { at = at; what = i }) (env values) cs (env (set values at v)) ds (Ok u)
+runs_on m ins at i values cs ds choice v u h ec e el result xs =
+    ap (λ c. and_then (step m (value ins (env values)) i c) (go (put (env values) at) (left i cs))) (sym ec) ∙
+    ap (λ o. and_then o (go (put (env values) at) (left i cs))) (sym e) ∙
+    ap (λ l. run m ins result xs (put (env values) at v) l) (sym el) ∙
+    ap (λ ρ. run m ins result xs ρ ds) (put_set values at v h)
   where
-    nothing : (b : Bool) → cond b (tail []) [] ≡ []
-    nothing b = cond_both b (tail []) [] (λ l. l ≡ []) (λ _. refl) (λ _. refl)
+    go : (ℕ → Env) → List ℕ → ℕ → Outcome
+    go σ l w = run m ins result xs (σ w) l

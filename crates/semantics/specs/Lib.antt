@@ -7,3 +7,4 @@ pub mod Fitting
 pub mod Cases
 pub mod Changes
 pub mod Samples
+pub mod Runs

@@ -10,7 +10,6 @@ use Rattle.text.specs.Instructions.{placed_at, place, among, learn, learnt}
 use Rattle.text.proofs.Tests.{no_some}
 
 pub same_itself : (w : Bytes) → same_word w w ≡ true
-unfolding same_word
 same_itself [] = refl
 same_itself (x ∷ xs) = go (eqb x x) (eqb_refl x) (same_itself xs)
   where

@@ -1,12 +1,13 @@
 -- Decimal numbers, names and constants as they are written, and read back. Assumes nothing.
-use Rattle.std.proofs.Common.{◌≡◌, ℕ, zero, suc, ◌+◌, ◌-◌, ◌^◌, ◌<◌, ◌≤◌, true, false, cond, not, ◌&&◌, ◌||◌, eqb, ltb, leb, [], ◌∷◌, map, length, Some, None, decimal, sym, refl, ap, ◌∙◌, ⊎_elim, arith, rules}
+use Rattle.std.proofs.Common.{◌≡◌, ℕ, zero, suc, ◌+◌, ◌-◌, ◌*◌, ◌^◌, ◌<◌, ◌≤◌, true, false, cond, not, ◌&&◌, ◌||◌, eqb, ltb, leb, [], ◌∷◌, map, length, fold, Some, None, decimal, sym, refl, ap, ◌∙◌, ⊎_elim, arith, rules}
 use Rattle.std.proofs.lemmas.Bool.{and_parts, and_from, or_right, or_from, leb-true, le-leb, lt-ltb, ne_eqb, eqb-true, not_from_false, false≢true}
 use Rattle.std.proofs.lemmas.Str.Parse.{IsNumeralModel, numerals_by_fold}
 use Rattle.std.proofs.lemmas.Fmt.{digits_decimal, digits_value-decimal, length-decimal-le, decimal_nonempty, decimal_injective}
 use Rattle.semantics.specs.Cases.{from}
 use Rattle.scan.specs.declared.Separators.TheVariants.{LineFeeds, SpacesAndCommas}
 use Rattle.scan.specs.Pieces.{Bytes, separates}
-use Rattle.scan.specs.Numbers.{digit, all_digits, worth, digits}
+use Rattle.std.specs.List.{list_all}
+use Rattle.scan.specs.Numbers.{digit, worth, digits}
 use Rattle.vocabulary.specs.Names.{same_word}
 use Rattle.semantics.specs.Programs.{all}
 use Rattle.text.specs.Words.{only_if, letter, plain, name}
@@ -16,10 +17,10 @@ use Rattle.text.proofs.Found.{same_itself}
 use Rattle.semantics.proofs.Members.{holds, fails, same?}
 use Rattle.text.proofs.Spaced.{solid, Good, all_by}
 
-own : IsNumeralModel (λ ds. all_digits ds ≡ true) (worth 0)
-own = numerals_by_fold _ (search rules) worth (search rules)
+own : IsNumeralModel (λ ds. list_all digit ds ≡ true) worth
+own = numerals_by_fold _ (search rules) (fold (λ v d. v * 10 + (d - 48))) (search rules)
 
-each_digit : (w : Bytes) → all_digits w ≡ all digit w
+each_digit : (w : Bytes) → list_all digit w ≡ all digit w
 each_digit [] = refl
 each_digit (b ∷ w) = ap (λ t. digit b && t) (each_digit w)
 
@@ -28,13 +29,13 @@ module _ (n : ℕ) (small : n < 100000) where
   long : n < 2 ^ 64
   long = omega arith
 
-  written_digits : all_digits (decimal n) ≡ true
+  written_digits : list_all digit (decimal n) ≡ true
   written_digits = digits_decimal own n long
 
   pub reads_decimal : digits (decimal n) ≡ Some n
   reads_decimal =
       let some = decimal_nonempty n long in
-      ap (λ b. cond b (Some (worth 0 (decimal n))) None) (and_from (ltb 0 (length (decimal n))) (all_digits (decimal n)) (lt-ltb 0 (length (decimal n)) (omega arith)) written_digits) ∙ ap Some (digits_value-decimal own n long)
+      ap (λ b. cond b (Some (worth (decimal n))) None) (and_from (ltb 0 (length (decimal n))) (list_all digit (decimal n)) (lt-ltb 0 (length (decimal n)) (omega arith)) written_digits) ∙ ap Some (digits_value-decimal own n long)
 
   digit_solid : (b : ℕ) → digit b ≡ true → solid b ≡ true
   digit_solid b e =
@@ -56,7 +57,6 @@ module _ (n : ℕ) (small : n < 100000) where
   name_word b e = ap (λ t. only_if t (b ∷ decimal n)) (plain_name b e)
 
 pub same_true : (v w : Bytes) → same_word v w ≡ true → v ≡ w
-unfolding same_word
 same_true [] [] e = refl
 same_true [] (y ∷ w) e = absurd (false≢true e)
 same_true (x ∷ v) [] e = absurd (false≢true e)

@@ -10,7 +10,6 @@ use Rattle.semantics.specs.Programs.{Program, All, reads, Ordered}
 use Rattle.semantics.specs.Rules.{numbered}
 use Rattle.semantics.proofs.Members.{In, all_weaker}
 use Rattle.semantics.specs.Cases.{from}
-use Rattle.vocabulary.specs.Names.{same_word}
 use Rattle.semantics.proofs.Listed.{length_from}
 use Rattle.semantics.proofs.Numbers.{from_in}
 use Rattle.scan.specs.Pieces.{Bytes}
@@ -40,7 +39,6 @@ module _ (m : Model) (law : Lawful m) (n : ℕ) (few : n ≤ 8) where
   good_in = (record { some = omega arith; short = omega arith; solid_bytes = refl }, good_inputs 0 n (omega arith))
 
   reads_in : line_step (program_step m) nothing_read (spaced (in_words n)) ≡ next (after_lines [])
-  unfolding same_word
   reads_in =
       let l : length ins ≡ n = length-map (from 0 n) input_name ∙ length_from 0 n in
       step_spaced (program_step m) nothing_read 105 (110 ∷ []) (map (λ k. 37 ∷ input_name k) (from 0 n)) good_in refl
@@ -89,7 +87,6 @@ module _ (m : Model) (law : Lawful m) (n : ℕ) (few : n ≤ 8) where
   good_ret r h = (record { some = omega arith; short = omega arith; solid_bytes = refl }, (good_word 37 114 r (omega arith) refl refl, tt))
 
   reads_ret : (i : Instruction) (is : List Instruction) (r : ℕ) → length (i ∷ is) ≤ 64 → 1 ≤ r → r ≤ length (i ∷ is) → line_step (program_step m) (after_lines (i ∷ is)) (spaced (ret_words r)) ≡ next (finished (i ∷ is) r)
-  unfolding same_word
   reads_ret i is r room low high =
       let s = after_lines (i ∷ is) in
       step_spaced (program_step m) s 114 (101 ∷ 116 ∷ []) ((37 ∷ record_name r) ∷ []) (good_ret r (omega arith)) refl

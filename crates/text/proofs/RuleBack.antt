@@ -148,7 +148,6 @@ module _ (m : Model) (law : Lawful m) (source : List Instruction) (short : lengt
     done = record { section = at_end; variables = ins n; source = label f 1 source; target = label g 1 target }
 
     reads_arrow : 1 ≤ length source → line_step (rule_step m) (in_lines n source) (spaced (codes "=>" ∷ [])) ≡ next (out_lines [])
-    unfolding same_word
     reads_arrow some = step_spaced (rule_step m) (in_lines n source) 61 (62 ∷ []) [] (record { some = omega arith; short = omega arith; solid_bytes = refl }, tt) refl ∙ go source some
       where
         go : (is : List Instruction) → 1 ≤ length is → closing (label f 1 is) (out_lines []) ≡ next (out_lines [])
@@ -156,7 +155,6 @@ module _ (m : Model) (law : Lawful m) (source : List Instruction) (short : lengt
         go (i ∷ is) h = refl
 
     reads_end : 1 ≤ length target → line_step (rule_step m) (out_lines target) (spaced (codes "end" ∷ [])) ≡ next done
-    unfolding same_word
     reads_end some = step_spaced (rule_step m) (out_lines target) 101 (110 ∷ 100 ∷ []) [] (record { some = omega arith; short = omega arith; solid_bytes = refl }, tt) refl ∙ go target some
       where
         go : (is : List Instruction) → 1 ≤ length is → closing (label g 1 is) done ≡ next done
@@ -177,7 +175,6 @@ module _ (m : Model) (law : Lawful m) (source : List Instruction) (short : lengt
     good_words = (record { some = omega arith; short = omega arith; solid_bytes = refl }, (record { some = omega arith; short = omega arith; solid_bytes = refl }, tt))
 
     reads_start : line_step (rule_step m) nothing_read (spaced (codes "rule" ∷ codes "t" ∷ [])) ≡ next (in_lines 0 [])
-    unfolding same_word
     reads_start = step_spaced (rule_step m) nothing_read 114 (117 ∷ 108 ∷ 101 ∷ []) (codes "t" ∷ []) good_words refl
 
     reads_all : (r : Rule) → r ≡ record { variables = n; source = source; target = target } → 1 ≤ length source → 1 ≤ length target → AllRead (numbered 1 source) → case_number m r ≤ 100000000 →

@@ -3,9 +3,9 @@ use Rattle.std.proofs.Common.{◌≡◌, ℕ, suc, ◌+◌, ◌*◌, ◌≤◌, 
 use Rattle.std.proofs.lemmas.Bool.{and_parts, not-true, or_from}
 use Rattle.semantics.specs.Programs.{All, all}
 use Rattle.scan.specs.declared.Separators.TheVariants.{LineFeeds, SpacesAndCommas}
-use Rattle.scan.specs.Pieces.{Bytes, byte_before, pieces, lines, separates, non_empty, words}
+use Rattle.scan.specs.Pieces.{Bytes, byte_before, pieces, lines, separates, non_empty, words, no_word}
 use Rattle.text.specs.Forms.{Form, form}
-use Rattle.text.specs.Faults.{Read, Step, next, no_word, begins, skipped, formed_line, line_step, go_on, walk}
+use Rattle.text.specs.Faults.{Read, Step, next, begins, skipped, formed_line, line_step, go_on, walk}
 use Rattle.text.specs.Writing.{spaced, text_of}
 
 -- a byte of a word: it separates no words and ends no line

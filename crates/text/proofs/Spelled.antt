@@ -8,7 +8,7 @@ use Rattle.semantics.proofs.Members.{in_cases}
 use Rattle.semantics.specs.Cases.{keep}
 use Rattle.text.specs.Forms.{mark}
 use Rattle.text.specs.Words.{any}
-use Rattle.vocabulary.specs.Names.{operation_named, name_of, same_word, named_in}
+use Rattle.vocabulary.specs.Names.{operation_named, name_of}
 use Rattle.semantics.specs.Operations.{facts}
 use Rattle.text.specs.Instructions.{sum, repeated, bad_marks}
 use Rattle.text.specs.Neat.{in_set, written_marks}
@@ -28,11 +28,9 @@ pub record OpFine (op : Operation) : Type 0 where
   pub apart : (t : ℕ → Bool) → bad_marks op (keep t (facts op).permitted) ≡ false
 
 two_marks : All MarkFine (1 ∷ 2 ∷ [])
-unfolding same_word
 two_marks = ((record { some = lit≤ tt; short = lit≤ tt; solid_bytes = refl }, refl), ((record { some = lit≤ tt; short = lit≤ tt; solid_bytes = refl }, refl), tt))
 
 one_marks : All MarkFine (4 ∷ [])
-unfolding same_word
 one_marks = ((record { some = lit≤ tt; short = lit≤ tt; solid_bytes = refl }, refl), tt)
 
 none_marks : All MarkFine []
@@ -62,7 +60,7 @@ none_apart : (t : ℕ → Bool) → Bad [] (keep t []) ≡ false
 none_apart t = refl
 
 pub op_fine : (op : Operation) → OpFine op
-unfolding same_word named_in
+unfolding operation_named
 op_fine Add = record { word = record { some = lit≤ tt; short = lit≤ tt; solid_bytes = refl }; known = refl; few = lit≤ tt; marks = two_marks; apart = two_apart }
 op_fine Sub = record { word = record { some = lit≤ tt; short = lit≤ tt; solid_bytes = refl }; known = refl; few = lit≤ tt; marks = two_marks; apart = two_apart }
 op_fine Mul = record { word = record { some = lit≤ tt; short = lit≤ tt; solid_bytes = refl }; known = refl; few = lit≤ tt; marks = two_marks; apart = two_apart }

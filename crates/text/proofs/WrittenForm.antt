@@ -10,9 +10,10 @@ use Rattle.semantics.specs.Programs.{All, reads}
 use Rattle.semantics.specs.Cases.{keep}
 use Rattle.semantics.proofs.Counts.{reads_count, reads_few}
 use Rattle.scan.specs.Pieces.{Bytes}
-use Rattle.scan.specs.Numbers.{all_digits, digits, worth}
+use Rattle.std.specs.List.{list_all}
+use Rattle.scan.specs.Numbers.{digit, digits, worth}
 use Rattle.text.specs.Words.{Argument, a_name, a_number, a_code, only_if, and_then, or_else, each, constant_argument, argument}
-use Rattle.vocabulary.specs.Names.{operation_named, operand_count, name_of, same_word}
+use Rattle.vocabulary.specs.Names.{operation_named, operand_count, name_of}
 use Rattle.semantics.specs.Operations.{facts}
 use Rattle.text.specs.Forms.{Written, instruction_line, mark_before, leading_marks, not_a_mark, behind_marks, arguments, written, form, mark}
 use Rattle.text.specs.Neat.{in_set, written_marks}
@@ -56,7 +57,7 @@ module _ (f : ℕ → Bytes) (total : ℕ) (naming : Naming f total) where
   reads_argument (Input k) s = ap (λ x. or_else (and_then x (λ n. Some (a_name n))) (constant_argument (operand_word f (Input k)))) (name_word (suc k) (omega arith) 105 refl)
   reads_argument (Record r) s = ap (λ x. or_else (and_then x (λ n. Some (a_name n))) (constant_argument (operand_word f (Record r)))) (naming.reads r s)
   reads_argument (Constant c) s =
-      ap (λ b. or_else (and_then (cond b (Some (worth 0 (35 ∷ decimal c))) None) (λ v. Some (a_number (pos v)))) (and_then (digits (decimal c)) (λ v. Some (a_code v)))) (and_right (ltb 0 (suc (length (decimal c)))) (all_digits (35 ∷ decimal c)) refl)
+      ap (λ b. or_else (and_then (cond b (Some (worth (35 ∷ decimal c))) None) (λ v. Some (a_number (pos v)))) (and_then (digits (decimal c)) (λ v. Some (a_code v)))) (and_right (ltb 0 (suc (length (decimal c)))) (list_all digit (35 ∷ decimal c)) refl)
       ∙ ap (λ x. and_then x (λ v. Some (a_code v))) (reads_decimal c (omega arith))
 
   reads_arguments : (os : List Operand) → All (Small total) os → each argument (map (operand_word f) os) ≡ Some (map (argument_of f) os)
@@ -66,7 +67,6 @@ module _ (f : ℕ → Bytes) (total : ℕ) (naming : Naming f total) where
       ∙ ap (λ x. and_then x (λ xs. Some (argument_of f o ∷ xs))) (reads_arguments os s.1)
 
   no_mark : (o : Operand) → mark (operand_word f o) ≡ None
-  unfolding same_word
   no_mark (Input k) = refl
   no_mark (Record r) = refl
   no_mark (Constant c) = refl
@@ -107,7 +107,6 @@ module _ (f : ℕ → Bytes) (total : ℕ) (naming : Naming f total) where
         ∙ ap (λ l. Some (instruction_line (record { name = f r; operation = op; marks = l; arguments = map (argument_of f) (reads i) }))) (reads_marks ms (reads i) marks_fine)
 
     pub reads_form : form (instruction_words f (record { at = r; what = i })) ≡ Some (instruction_line (line_of f r i))
-    unfolding same_word
     reads_form =
         let ws = map mark_word ms ++ map (operand_word f) (reads i) in
         ap (λ x. and_then x (λ n. and_then (operation_named (name_of op)) (λ op. written n op ws))) (naming.reads r low)

@@ -1,12 +1,13 @@
 -- Operations and marks as texts write them. Assumes nothing.
 use Rattle.std.specs.Prelude.{◌≡◌, ℕ, Bool, cond, List, [], ◌∷◌, Some, None, codes, Option, ◌≢◌}
+use Rattle.std.specs.List.{find}
 use Rattle.std.specs.Str.{bytes_eq}
 use Rattle.vocabulary.specs.declared.marks.Marks.{Marks}
 use Rattle.vocabulary.specs.declared.operation.Operation.{Operation}
 use Rattle.vocabulary.specs.declared.operation.Operation.TheVariants.{Add, Sub, Mul, Shl, Lshr, Ashr, Udiv, Urem, Sdiv, Srem, And, Or, Xor, Eq, Ne, Ult, Ule, Slt, Sle, Copy, Freeze, Select}
 
 -- two words of the same bytes
-unfoldable pub same_word : List ℕ → List ℕ → Bool
+abbrev pub same_word : List ℕ → List ℕ → Bool
 same_word xs ys = bytes_eq xs ys
 
 abbrev pub name_of : Operation → List ℕ
@@ -86,13 +87,9 @@ operand_count Copy = 1
 operand_count Freeze = 1
 operand_count Select = 3
 
--- the operation of a list that a word names
-unfoldable pub named_in : List Operation → List ℕ → Option Operation
-named_in [] word = None
-named_in (op ∷ ops) word = cond (same_word word (name_of op)) (Some op) (named_in ops word)
-
-abbrev pub operation_named : List ℕ → Option Operation
-operation_named word = named_in operations word
+-- the operation that a word names
+unfoldable pub operation_named : List ℕ → Option Operation
+operation_named word = find (λ op. same_word word (name_of op)) operations
 
 -- the word is the operation's name, or no operation has that name
 abbrev pub NamesOperation : List ℕ → Option Operation → Type 0

@@ -2,5 +2,4 @@
 #![tactic(auto)]
 
 pub mod marks;
-pub mod name;
 pub mod operation;

@@ -2,10 +2,8 @@
 ghost use Rattle.std.specs.Prelude.{◌≡◌, ◌-◌, ◌%◌, ◌==◌, bit_and, bit_or, nat_lt};
 ghost use Rattle.vocabulary.specs.Names.{mark_named};
 
-use crate::name::is_word;
-
 // A set of marks is the sum of their numbers: nuw 1, nsw 2, exact 4, range 8.
-#[derive(Clone, Copy, PartialEq, Debug)]
+#[derive(Clone, Copy, PartialEq, Eq, Debug)]
 pub struct Marks {
     bits: u8,
 }
@@ -86,16 +84,16 @@ impl Marks {
     pub fn named(word: &[u8]) -> Option<Marks>
         ensures { result ≡ mark_named word.now }
     {
-        if is_word(word, b"nuw") {
+        if word == b"nuw".as_slice() {
             return Some(Marks::NUW);
         }
-        if is_word(word, b"nsw") {
+        if word == b"nsw".as_slice() {
             return Some(Marks::NSW);
         }
-        if is_word(word, b"exact") {
+        if word == b"exact".as_slice() {
             return Some(Marks::EXACT);
         }
-        if is_word(word, b"range") {
+        if word == b"range".as_slice() {
             return Some(Marks::RANGE);
         }
         None

@@ -1,14 +1,11 @@
 // The 22 operations and their names.
-ghost use Rattle.std.specs.Prelude.{◌≡◌, ◌==◌, ◌↔◌, IsTrue};
-ghost use Rattle.std.specs.Ordering.{on};
-ghost use Rattle.vocabulary.specs.Names.{name_of, number_of, operand_count, operation_named, NamesOperation};
-ghost use Rattle.std.specs.Cmp.Rules.{comparing};
-ghost use Rattle.std.proofs.Common.{rules};
+ghost use Rattle.std.specs.Prelude.{◌≡◌, Some};
+ghost use Rattle.vocabulary.specs.Names.{name_of, operand_count, operation_named, NamesOperation};
 
-use crate::name::is_word;
+use std::fmt;
 
 // The 19 operations on two codes that a domain computes, then copy, freeze and select.
-#[derive(Clone, Copy)]
+#[derive(Clone, Copy, PartialEq, Eq, Debug)]
 pub enum Operation {
     Add,
     Sub,
@@ -34,47 +31,33 @@ pub enum Operation {
     Select,
 }
 
-// By hand, so that the contract of `==` says that it holds of one operation and itself alone.
-impl PartialEq for Operation {
-    ghost eq = { on number_of ◌==◌ };
-
-    ghost laws = { Prim.search (comparing, rules) };
-
-    fn eq(&self, other: &Operation) -> bool
-        ensures value { result ≡ (number_of self.now == number_of other.now) }
-        ensures same { IsTrue result ↔ (self.now ≡ other.now) }
-    {
-        *self as u8 == *other as u8
-    }
-}
-
-// All operations, in their order.
-pub const OPERATIONS: [Operation; 22] = [
-    Operation::Add,
-    Operation::Sub,
-    Operation::Mul,
-    Operation::Shl,
-    Operation::Lshr,
-    Operation::Ashr,
-    Operation::Udiv,
-    Operation::Urem,
-    Operation::Sdiv,
-    Operation::Srem,
-    Operation::And,
-    Operation::Or,
-    Operation::Xor,
-    Operation::Eq,
-    Operation::Ne,
-    Operation::Ult,
-    Operation::Ule,
-    Operation::Slt,
-    Operation::Sle,
-    Operation::Copy,
-    Operation::Freeze,
-    Operation::Select,
-];
-
 impl Operation {
+    // All operations, in their order.
+    pub const ALL: [Operation; 22] = [
+        Operation::Add,
+        Operation::Sub,
+        Operation::Mul,
+        Operation::Shl,
+        Operation::Lshr,
+        Operation::Ashr,
+        Operation::Udiv,
+        Operation::Urem,
+        Operation::Sdiv,
+        Operation::Srem,
+        Operation::And,
+        Operation::Or,
+        Operation::Xor,
+        Operation::Eq,
+        Operation::Ne,
+        Operation::Ult,
+        Operation::Ule,
+        Operation::Slt,
+        Operation::Sle,
+        Operation::Copy,
+        Operation::Freeze,
+        Operation::Select,
+    ];
+
     // The word that texts write for it.
     pub fn name(self) -> &'static str
         ensures { result.now ≡ name_of self }
@@ -121,12 +104,18 @@ impl Operation {
         ensures value { result ≡ operation_named word.now }
         ensures meaning { NamesOperation word.now result }
     {
-        for i in 0..OPERATIONS.len() {
-            let op = OPERATIONS[i];
-            if is_word(word, op.name().as_bytes()) {
-                return Some(op);
-            }
-        }
-        None
+        Operation::ALL
+            .iter()
+            .find(|op| word == op.name().as_bytes())
+            .copied()
+    }
+}
+
+// As texts write it.
+impl fmt::Display for Operation {
+    ghost output = { λ op. Some (name_of op) };
+
+    fn fmt<W: fmt::Write>(&self, f: &mut fmt::Formatter<W>) -> fmt::Result {
+        f.write_str(self.name())
     }
 }

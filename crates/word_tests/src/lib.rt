@@ -4,7 +4,7 @@
 
 use domain::{Domain, Outcome, Trapped};
 use vocabulary::marks::Marks;
-use vocabulary::operation::{OPERATIONS, Operation};
+use vocabulary::operation::Operation;
 use words::Words;
 
 const TRAP: u32 = 1000;
@@ -282,7 +282,7 @@ mod tests {
     fn every_width_agrees(rt: HostRuntime) -> Result<(), Fail> {
         for width in 1..9u16 {
             let words = Words::new(width)?;
-            for op in OPERATIONS {
+            for op in Operation::ALL {
                 assert_eq!(rt; differences(&words, Circle::new(width as u32), op), 0);
             }
         }

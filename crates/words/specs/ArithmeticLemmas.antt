@@ -1,13 +1,12 @@
 -- The arithmetic of words is that of exact division.
-use Rattle.std.specs.Prelude.{◌≡◌, ℕ, zero, suc, ◌-◌, ◌*◌, ◌/◌, ◌%◌, ◌^◌, ◌<◌, ◌≤◌, true, ℤ, pos, negsuc, ◌+ℤ◌, ◌-ℤ◌, ◌*ℤ◌, neg_ℤ, ◌≤ℤ◌, ◌<ℤ◌, ◌≢◌, int_div, int_rem, nat_lt, unsigned_abs, refl}
+use Rattle.std.specs.Prelude.{◌≡◌, ℕ, ◌/◌, ◌^◌, ◌<◌, ◌≤◌, true, ℤ, pos, negsuc, ◌+ℤ◌, ◌-ℤ◌, ◌*ℤ◌, ◌≤ℤ◌, ◌<ℤ◌, int_rem, unsigned_abs}
 use Rattle.std.proofs.Common.{sym, ap, ◌∙◌, mod-lt, mod-eq_of_lt, arith, pow_pos}
 use Rattle.std.proofs.Math.Nat.{mod-le}
-use Rattle.std.proofs.Math.IntN.{neg_ℤ-neg_ℤ, +ℤ_one, zero-*ℤ, suc_ℤ-*ℤ}
+use Rattle.std.proofs.Math.IntN.{+ℤ_one, suc_ℤ-*ℤ}
 use Rattle.std.specs.Int.Signed.{shr_z}
-use Rattle.std.proofs.lemmas.Bool.{cond_both, ltb-true, ltb-false}
 use Rattle.std.proofs.lemmas.Nat.{div-add-mod'}
-use Rattle.std.proofs.lemmas.Int.{ints}
-use Rattle.words.specs.Words.{codes_of, least_of, signed, residue, in_signed}
+use Rattle.std.proofs.lemmas.Int.{ints, quot-rem, rem_below}
+use Rattle.words.specs.Words.{codes_of, signed, residue, in_signed}
 use Rattle.words.specs.Arithmetic.{Exact}
 use Rattle.words.specs.Powers.{halves}
 
@@ -22,43 +21,18 @@ residue_rest w (pos n) = ap pos (omega (arith, div-add-mod' n (codes_of w)))
 residue_rest w (negsuc n) = let r = mod-lt n (pow_pos w) in omega (arith, ints, div-add-mod' n (codes_of w))
 
 signed_range : (w : ℕ) → 1 ≤ w → (c : ℕ) → c < codes_of w → in_signed w (signed w c) ≡ true
-signed_range w low c h =
-    let d = halves w low in
-    cond_both (nat_lt c (least_of w)) (pos c) (pos c -ℤ pos (codes_of w)) (λ z. in_signed w z ≡ true)
-    (λ e. let p = ltb-true c (least_of w) e in grind (arith, ints))
-    (λ e. let p = ltb-false c (least_of w) e in grind (arith, ints))
+signed_range w low c h = let d = halves w low in grind (arith, ints)
 
 -- a code less 2^w has the code as remainder
 minus_code : (w c : ℕ) → c < codes_of w → residue w (pos c -ℤ pos (codes_of w)) ≡ c
-minus_code w c h =
-    let e : pos c -ℤ pos (codes_of w) ≡ negsuc (codes_of w - 1 - c) = omega (arith, ints) in
-    let m : (codes_of w - 1 - c) % codes_of w ≡ codes_of w - 1 - c = mod-eq_of_lt (omega arith) in
-    ap (residue w) e ∙ omega arith
+minus_code w c h = grind (arith, ints, mod-eq_of_lt)
 
 signed_code : (w c : ℕ) → c < codes_of w → residue w (signed w c) ≡ c
-signed_code w c h =
-    cond_both (nat_lt c (least_of w)) (pos c) (pos c -ℤ pos (codes_of w)) (λ z. residue w z ≡ c)
-    (λ _. mod-eq_of_lt h) (λ _. minus_code w c h)
-
--- a sign moves out of a product
-negative_times : (n : ℕ) (d : ℤ) → neg_ℤ (pos n) *ℤ d ≡ neg_ℤ (pos n *ℤ d)
-negative_times zero d = zero-*ℤ d ∙ ap neg_ℤ (sym (zero-*ℤ d))
-negative_times (suc n) (pos m) = refl
-negative_times (suc n) (negsuc m) = sym (neg_ℤ-neg_ℤ (pos (suc n * suc m)))
+signed_code w c h = let m = minus_code w c h in let l = mod-eq_of_lt h in grind arith
 
 -- one more in a factor adds the other factor
 next_times : (x k : ℤ) → (x +ℤ pos 1) *ℤ k ≡ x *ℤ k +ℤ k
 next_times x k = ap (λ y. y *ℤ k) (+ℤ_one x) ∙ suc_ℤ-*ℤ x k
-
-division : (z d : ℤ) → z ≡ int_div z d *ℤ d +ℤ int_rem z d
-division (pos a) (pos b) = omega (arith, ints, div-add-mod' a b)
-division (pos a) (negsuc b) = omega (arith, ints, negative_times (a / suc b) (negsuc b), div-add-mod' a (suc b))
-division (negsuc a) (pos b) = omega (arith, ints, negative_times (suc a / b) (pos b), div-add-mod' (suc a) b)
-division (negsuc a) (negsuc b) = omega (arith, ints, div-add-mod' (suc a) (suc b))
-
-rest_small : (z d : ℤ) → (d ≢ pos 0) → unsigned_abs (int_rem z d) < unsigned_abs d
-rest_small (pos a) d h = mod-lt a (omega (arith, ints))
-rest_small (negsuc a) d h = let r : suc a % unsigned_abs d < unsigned_abs d = mod-lt (suc a) (omega (arith, ints)) in omega (arith, ints)
 
 rest_sign : (z d : ℤ) → (pos 0 ≤ℤ z → pos 0 ≤ℤ int_rem z d) × (z ≤ℤ pos 0 → int_rem z d ≤ℤ pos 0)
 rest_sign (pos a) d = (λ _. omega (arith, ints), λ h. omega (arith, ints, mod-le a (unsigned_abs d)))
@@ -78,8 +52,8 @@ words_exact w low = record {
   residue_rest = λ z. (shr_z z (codes_of w), residue_rest w z);
   signed_range = signed_range w low;
   signed_code = signed_code w;
-  division = λ z d _. division z d;
-  rest_small = rest_small;
+  division = λ z d _. sym (quot-rem z d);
+  rest_small = λ z d h. rem_below z d (omega (arith, ints));
   rest_sign = rest_sign;
   shift_down = λ z s. (shift_low z (2 ^ s) (pow_pos s), shift_high z (2 ^ s) (pow_pos s));
 }

@@ -83,12 +83,12 @@ both_same w a b a2 b2 P r s p = subst (λ x. P x b2) (same w a a2 r).0 (subst (P
 
 literal_code : (s : Bool) (x c n : ℕ) → x < n → cond s (Some x) None ≡ Some c → c < n
 literal_code true x c n h e = let z : x ≡ c = cc in omega arith
-literal_code false x c n h e = let z : ◌≡◌ {A = ℕ} 0 1 = cc in absurd (omega arith)
+literal_code false x c n h e = cc
 
 no_neither : (s t : Bool) → s ≡ true → cond s (cond t No Yes) Neither ≢ Neither
-no_neither true true e f = let z : ◌≡◌ {A = ℕ} 0 1 = cc in omega arith
-no_neither true false e f = let z : ◌≡◌ {A = ℕ} 0 1 = cc in omega arith
-no_neither false t e f = let z : ◌≡◌ {A = ℕ} 0 1 = cc in omega arith
+no_neither true true e f = cc
+no_neither true false e f = cc
+no_neither false t e f = cc
 
 -- copy, freeze and select are not computed
 other_result : (w : ℕ) (op : Operation) (a b : ℕ) → (op ≡ Copy) ⊎ ((op ≡ Freeze) ⊎ (op ≡ Select)) → result_of w op a b ≡ trap

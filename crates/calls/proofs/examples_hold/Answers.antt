@@ -1,12 +1,12 @@
 use Rattle.std.proofs.Common.{refl}
-use Rattle.vocabulary.specs.Names.{same_word, named_in}
+use Rattle.vocabulary.specs.Names.{operation_named}
 use Rattle.words.specs.Words.{overflow}
 use Rattle.layers.specs.Layers.{union, any}
 use Rattle.pile.proofs.Examples.{examples}
 use Rattle.calls.proofs.examples_hold.Goals as goal
 
 pub returns : goal.returns
-unfolding same_word named_in union any overflow
+unfolding operation_named union any overflow
 returns c = record {
   values = examples;
   select_poison = refl;

@@ -1,18 +1,13 @@
-use Rattle.std.proofs.Common.{map, subst}
-use Rattle.chain.specs.Chains.{Chained}
+use Rattle.std.proofs.Common.{map}
 use Rattle.chain.proofs.Relinks.{zero_apart}
 use Rattle.chain.proofs.Places.{before_zero}
 use Rattle.chain.proofs.append.Goals as goal
 
-pub returns : goal.returns
-returns g c =
+pub returns-clause-links : goal.returns-clause-links
+returns-clause-links g c =
     let links = map g.R.Linked.successor c.args.records.now in
-    let after = map g.R.Linked.successor c.insert_before.new.records in
-    let e = c.insert_before.ensures in
+    let e = c.insert_before.ensures.links in
     record {
-      links = record {
-        chain = λ ks h. subst (Chained after c.insert_before.result) (before_zero c.args.at ks (zero_apart links c.args.first ks h)) (e.links.chain ks h);
-        others = e.links.others;
-      };
-      rest = e.rest;
+      chain = λ ks h. rw (← before_zero c.args.at ks (zero_apart links c.args.first ks h)) (e.chain ks h);
+      others = e.others;
     }

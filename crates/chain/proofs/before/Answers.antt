@@ -1,31 +1,25 @@
-use Rattle.std.proofs.Common.{map, sym, subst, inl, inr, arith}
-use Rattle.std.proofs.lemmas.List.{length-map}
-use Rattle.chain.proofs.Walks.{onward, shorter}
-use Rattle.chain.proofs.Searches.{Searching, starts, goes_on, stops}
+use Rattle.std.proofs.Common.{ℕ, not, eqb, unwrap_or, take_while, None, ap, ◌∙◌, rules}
+use borrow.Author.Tests.{tests}
+use Rattle.std.specs.List.{last_or}
+use Rattle.std.proofs.lemmas.Iterator.{YieldsList-from_map}
+use Rattle.std.proofs.lemmas.Iterator.Consumers.{YieldsList-from_first, YieldsList-at}
+use Rattle.std.proofs.lemmas.Iterator.Search.{YieldsList-from_take_while}
+use Rattle.chain.specs.Records.{records_at}
+use Rattle.chain.proofs.Walks.{walks}
+use Rattle.chain.proofs.Steps.{numbers}
+use Rattle.chain.proofs.Searches.{last_before, last_from_yields_list}
 use Rattle.chain.proofs.before.Goals as goal
 
-pub loop-at-init : goal.loop-at-init
-loop-at-init g c = (c.ranges.first.fits, starts _ c.args.first c.args.wanted c.requires)
-
-pub next_of-at-requires : goal.next_of-at-requires
-next_of-at-requires g c =
-    let s = c.loop-at.invariant.1 in
-    let w = onward _ c.loop-at.at s.rest s.chain c.loop-at-test.true in
-    record { low = w.low; high = omega (arith, w.high, length-map c.args.records.now g.R.Linked.successor) }
-
-pub loop-at-smaller : goal.loop-at-smaller
-loop-at-smaller g c =
-    let s = c.loop-at.invariant.1 in
-    shorter (map g.R.Linked.successor c.args.records.now) c.loop-at.at c.next_of-at.result s.rest s.chain c.loop-at-test.true c.next_of-at.ensures
-
-pub loop-at-preserved : goal.loop-at-preserved
-loop-at-preserved g c =
-    let links = map g.R.Linked.successor c.args.records.now in
-    let at = c.loop-at.at in
-    (c.next_of-at.type_inv, subst (Searching links c.args.first c.args.wanted at) (sym c.next_of-at.ensures) (goes_on links c.args.first c.args.wanted c.loop-at.last at c.loop-at.invariant.1 c.loop-at-test.true c.if-at-wanted.true))
-
-pub returns-else-at-wanted : goal.returns-else-at-wanted
-returns-else-at-wanted g c = stops _ c.args.first c.args.wanted c.loop-at.last c.loop-at.at c.loop-at.invariant.1 (inr c.if-at-wanted.false)
-
-pub returns-after-loop-at : goal.returns-after-loop-at
-returns-after-loop-at g c = stops _ c.args.first c.args.wanted c.loop-at.last c.loop-at.at c.loop-at.invariant.1 (inl c.loop-at-test.false)
+pub returns : goal.returns
+returns g c ks h =
+    let rs = c.args.records.now in
+    let test = λ (k : ℕ). not (eqb k c.args.wanted) in
+    let last = last_from_yields_list _ c.last.ensures.ran
+    (YieldsList-from_take_while _ test
+    (YieldsList-at c.take_while.ensures.source (YieldsList-from_map _ (λ p. p.0)
+    (YieldsList-at c.map.ensures.source (YieldsList-from_first (λ x. (x.0, x.1.now)) (λ l. l) (records_at rs ks) (c.iter.ensures ∙ ap (records_at rs) (walks _ _ ks h))))
+    c.map.ensures.closure (λ x r q k. search rules)))
+    c.take_while.ensures.closure c.take_while.ensures.done (λ x b q k. search (rules, tests)))
+    in
+    let numbered = ap (λ l. last_or None (take_while test l)) (numbers g.R.Linked.successor rs c.args.first ks h) in
+    c.unwrap_or.ensures ∙ ap (λ o. unwrap_or o 0) (last ∙ numbered) ∙ last_before c.args.wanted None ks

@@ -6,10 +6,9 @@ ghost use Rattle.program.specs.View.{view};
 
 use crate::codes::{all_codes, all_settled};
 use crate::fault::EvaluateFault;
-use crate::record::instruction_of;
 use crate::table::Table;
 use domain::{Domain, Outcome};
-use semantics::step::{at_or_zero, is_freeze, step, used_after};
+use semantics::run::Run;
 
 impl Table {
     // The outcome of the program at these inputs and choices, or why there is none.
@@ -34,32 +33,20 @@ impl Table {
     fn count_freezes(&self) -> usize
         ensures { result ≡ freezes (view self.now).program.body }
     {
-        let mut count = 0;
-        let mut at = self.first;
-        while at != 0 {
-            if is_freeze(instruction_of(&self.records, at)) {
-                count += 1;
-            }
-            at = chain::next_of(&self.records, at);
-        }
-        count
+        self.window()
+            .filter(|(_, instruction)| instruction.is_freeze())
+            .count()
     }
 
     // The outcome of a run, where inputs and choices that are missing count as 0.
     fn run<D: Domain>(&self, domain: &D, inputs: &[u16], choices: &[u16]) -> Outcome
         ensures { result ≡ outcome (D.Domain.model domain.now) (view self.now).program inputs.now choices.now }
     {
-        // by the numbers of the records, which begin at 1
-        let mut values = [0; 65];
-        let mut used = 0;
-        let mut at = self.first;
-        while at != 0 {
-            let instruction = instruction_of(&self.records, at);
-            let choice = at_or_zero(choices, used);
-            values[at as usize] = step(domain, instruction, inputs, &values, choice)?;
-            used = used_after(choices, used, instruction);
-            at = chain::next_of(&self.records, at);
+        // the numbers of the records begin at 1
+        let mut run = Run::<D, 65>::new(domain, inputs, choices);
+        for (at, instruction) in self.window() {
+            run.take(at, instruction)?;
         }
-        Ok(at_or_zero(&values, self.result as usize))
+        Ok(run.value(self.result))
     }
 }

@@ -6,27 +6,14 @@ ghost use Rattle.program.specs.View.{view};
 
 use crate::record::{Record, fill};
 use crate::table::Table;
-use semantics::{Instruction, Operand};
-use vocabulary::marks::Marks;
-use vocabulary::operation::Operation;
+use semantics::Instruction;
 
 impl Table {
     // A table with no program: all records are free, rising.
     pub fn new() -> Table
         ensures { view result ≡ as_loaded (record { inputs = 0; body = []; result = 0 }) }
     {
-        let filler = Operand::Constant(0);
-        let instruction = Instruction {
-            operation: Operation::Copy,
-            marks: Marks::NONE,
-            first: filler,
-            second: filler,
-            third: filler,
-        };
-        let mut records = [Record {
-            instruction,
-            next: 0,
-        }; 64];
+        let mut records = [Record::default(); 64];
         let free = chain::rise(&mut records, 1, 64);
         Table {
             records,

@@ -1,16 +1,36 @@
-// A walk along a chain of a table. What it does stands in the module below: a file that declares the window cannot cite what it shows.
-ghost use Rattle.std.specs.Prelude.{◌≡◌, true};
-ghost use Rattle.chain.specs.Walks.{walk, chained};
-ghost use Rattle.program.specs.View.{links};
+// A walk along a chain of a table.
+ghost use Rattle.std.specs.Prelude.{List, map};
+ghost use Rattle.std.specs.Iterator.{YieldsFirstBy, item_count};
+ghost use Rattle.semantics.specs.Programs.{Placed};
+ghost use Rattle.program.specs.Windows.{in_its_record};
 
 use crate::record::Record;
+use chain::Links;
+use semantics::Instruction;
+use std::marker::Model;
 
-mod walking;
-
-// The records from `at` on, with the instructions that stand in them. The table cannot change while a window is open.
-#[derive(Clone, Copy)]
+// The instructions along a chain, each with the number of its record, seen as the list of those that are left. The table cannot change
+// while a window is open.
+#[derive(Clone, Drop)]
 pub struct Window<'a> {
-    records: &'a [Record],
-    at: u8,
-    ghost chain: { chained (links records.now) at (walk (links records.now) at) ≡ true },
+    pub(super) links: Links<'a, Record>,
+}
+
+impl<'a> Model for Window<'a> {
+    ghost Value = { List Placed };
+
+    ghost view = { λ it. map (λ p. in_its_record (p.0, p.1.instruction)) it.links };
+}
+
+impl<'a> Iterator for Window<'a> {
+    type Item = (u8, Instruction);
+
+    ghost next_gives = { YieldsFirstBy in_its_record (λ left. left) };
+
+    ghost remaining = { item_count (λ left. left) };
+
+    fn next(&mut self) -> Option<(u8, Instruction)> {
+        let (at, record) = self.links.next()?;
+        Some((at, record.instruction))
+    }
 }

@@ -1,5 +1,5 @@
 // Reads the text of a program in place, line by line.
-ghost use Rattle.std.specs.Prelude.{◌≡◌, false, List, [], Some};
+ghost use Rattle.std.specs.Prelude.{◌≡◌, false, List, Some};
 ghost use Rattle.scan.specs.Pieces.{Bytes, left};
 ghost use Rattle.text.specs.Words.{each, name};
 ghost use Rattle.text.specs.Faults.{line_step};
@@ -9,45 +9,32 @@ ghost use Rattle.reader.specs.declared.program.Section.TheVariants.{Body};
 ghost use Rattle.reader.specs.Tokens.{Spells, Forms};
 ghost use Rattle.reader.specs.Inputs.{inputs_of, tabled};
 ghost use Rattle.reader.specs.ReadFaults.{left_at, OnLine};
-ghost use Rattle.reader.specs.Scopes.{table};
 ghost use Rattle.reader.specs.Readings.{reading_of};
 ghost use Rattle.reader.specs.Programs.{read_of};
 
 use crate::fault::{ReadFault, TextFault, on_line};
-use crate::form::{Form, Written, is_skipped, read_form};
+use crate::form::{Form, is_skipped, read_form};
 use crate::instruction::read_instruction;
 use crate::names::Names;
 use crate::program::{ProgramText, Reading, Section};
-use crate::scope::{FILLER, Scope};
+use crate::scope::Scope;
 use crate::token::name_of;
+use crate::written::Written;
+use arrayvec::ArrayVec;
 use domain::Domain;
-use scan::{Cursor, split_line};
-use semantics::Instruction;
-use vocabulary::marks::Marks;
-use vocabulary::operation::Operation;
-
-// What stands in the places behind the body.
-const NO_INSTRUCTION: Instruction = Instruction {
-    operation: Operation::Copy,
-    marks: Marks::NONE,
-    first: FILLER,
-    second: FILLER,
-    third: FILLER,
-};
+use scan::{Cursor, lines};
 
 // Adds the names of an `in` line to a table: at most eight, and each once.
-fn read_inputs<'a>(names: &mut Names<'a>, mut words: Cursor<'a>) -> Result<(), TextFault>
-    ensures { tabled (table names.new) result ≡ inputs_of (table names.old) false (left words.entry) }
+fn read_inputs<'a>(names: &mut Names<'a>, words: Cursor<'a>) -> Result<(), TextFault>
+    ensures { tabled names.new result ≡ inputs_of names.old false (left words.entry) }
 {
     let mut repeated = false;
-    while let Some(word) = words.next() {
+    for word in words {
         if names.len() >= 8 {
             return Err(TextFault::TooMany);
         }
-        let Some(name) = name_of(word) else {
-            return Err(TextFault::NoForm);
-        };
-        repeated = repeated || names.has(name);
+        let name = name_of(word).ok_or(TextFault::NoForm)?;
+        repeated |= names.has(name);
         names.push(name);
     }
     if repeated {
@@ -63,7 +50,7 @@ impl<'a> Reading<'a> {
         Reading {
             section: Section::Start,
             scope: Scope::new(),
-            body: [NO_INSTRUCTION; 64],
+            body: ArrayVec::new(),
             result: 0,
         }
     }
@@ -88,9 +75,9 @@ impl<'a> Reading<'a> {
         ensures value { (s : Spelt) → Spells written.entry s → left_at (reading_of self.new) result ≡ body_line (D.Domain.model domain.now) (reading_of self.old) s }
         ensures line { OnLine line result }
     {
-        let place = self.scope.instructions.len();
-        let instruction = read_instruction(domain, &self.scope, line, place >= 64, &written)?;
-        self.body[place] = instruction;
+        let full = self.body.is_full();
+        let instruction = read_instruction(domain, &self.scope, line, full, &written)?;
+        self.body.push(instruction);
         self.scope.instructions.push(written.name);
         Ok(())
     }
@@ -100,7 +87,7 @@ impl<'a> Reading<'a> {
         ensures value { left_at (reading_of self.new) result ≡ result_line (reading_of self.old).body (reading_of self.old) name.now }
         ensures line { OnLine line result }
     {
-        if self.scope.instructions.len() == 0 {
+        if self.body.is_empty() {
             return Err(ReadFault::text(line, TextFault::NoForm));
         }
         match self.scope.instructions.place(name) {
@@ -113,7 +100,7 @@ impl<'a> Reading<'a> {
         }
     }
 
-    // One line in its section; every other form is out of order there.
+    // One line in its section; every other form is out of order there. Sections follow the lines of the text, which come one by one.
     fn take<D: Domain>(&mut self, domain: &D, line: u16, form: Form<'a>) -> Result<(), ReadFault>
         ensures value { (f : Shape) → Forms form.entry f → left_at (reading_of self.new) result ≡ program_step (D.Domain.model domain.now) (reading_of self.old) f }
         ensures line { OnLine line result }
@@ -148,13 +135,12 @@ impl<'a> Reading<'a> {
     }
 
     // The program, where the text has ended behind `ret`.
-    fn finish(&self, number: u16) -> Result<ProgramText, ReadFault>
-        ensures { read_of result ≡ program_end (reading_of self.now) number }
+    fn finish(self, number: u16) -> Result<ProgramText, ReadFault>
+        ensures { read_of result ≡ program_end (reading_of self.entry) number }
     {
         match self.section {
             Section::End => Ok(ProgramText {
                 inputs: self.scope.variables.len() as u8,
-                count: self.scope.instructions.len() as u8,
                 body: self.body,
                 result: self.result,
             }),
@@ -171,12 +157,10 @@ pub fn read_program<D: Domain>(domain: &D, text: &[u8]) -> Result<ProgramText, R
         return Err(ReadFault::text(0, TextFault::TooLong));
     }
     let mut reading = Reading::new();
-    let mut rest = text;
-    let mut number: u16 = 1;
-    while !rest.is_empty() {
-        let (line, after) = split_line(rest);
+    // Counted here, as the number behind the last line is told too.
+    let mut number = 1;
+    for line in lines(text) {
         reading.take_line(domain, number, line)?;
-        rest = after;
         number += 1;
     }
     reading.finish(number)

@@ -1,7 +1,10 @@
-use Rattle.std.proofs.Common.{◌≡◌, ◌≤◌, min, drop}
-use Rattle.scan.specs.Numbers.{all_digits, worth}
+use Rattle.std.proofs.Common.{◌≡◌, min, true, take}
+use Rattle.std.specs.List.{list_all}
+use Rattle.scan.specs.Numbers.{digit, worth}
 use Rattle.scan.proofs.decimal.Given as goal
 
--- what is left tells whether all are digits, and what they are worth
-abbrev pub invariant-loop-i : goal.invariant-loop-i
-invariant-loop-i l = (l.n ≤ 65536) × (all_digits (drop l.i l.word) ≡ all_digits l.word) × (min (worth l.n (drop l.i l.word)) 65536 ≡ min (worth 0 l.word) 65536)
+abbrev pub invariant-loop-byte : goal.invariant-loop-byte
+invariant-loop-byte l = record {
+  digits : list_all digit (take l.byte-index l.word) ≡ true;
+  value : l.n ≡ min (worth (take l.byte-index l.word)) 65536;
+}

@@ -3,43 +3,36 @@ ghost use Rattle.std.specs.Prelude.{◌≡◌};
 ghost use Rattle.scan.specs.Pieces.{left};
 ghost use Rattle.script.specs.Commands.{layer_named, layer_at, after_layer, bench_words, bench_house, bench_command};
 
-use crate::command::Blueprint;
-use crate::command::number::{is_ended, read_number};
-use pile::Layer;
+use crate::command::number::read_number;
+use pile::{Blueprint, Layer};
 use scan::Cursor;
 use vocabulary::marks::Marks;
-use vocabulary::name::is_word;
 
 // A layer by its name and its marks.
 fn read_layer(name: &[u8], marks: &[u8]) -> Option<Layer>
     ensures { result ≡ layer_named name.now marks.now }
 {
-    let n = read_number(marks)?;
-    if n > 255 {
-        return None;
-    }
-    let marks = Marks::from_bits(n as u8);
-    if is_word(name, b"trap") {
+    let bits = u8::try_from(read_number(marks)?).ok()?;
+    let marks = Marks::from_bits(bits);
+    if name == b"trap".as_slice() {
         return Some(Layer::Trap(marks));
     }
-    if is_word(name, b"poison") {
+    if name == b"poison".as_slice() {
         return Some(Layer::Poison(marks));
     }
     None
 }
 
-// The next layer; there is none where the words have ended.
-fn next_layer(words: &mut Cursor) -> Option<Layer>
+// The next layer, or none where the words have ended.
+fn next_layer(words: &mut Cursor) -> Option<Option<Layer>>
     ensures value { result ≡ layer_at (left words.old) }
     ensures after { left words.new ≡ after_layer (left words.old) }
 {
-    let name = words.next();
-    let marks = words.next();
-    match (name, marks) {
-        (None, _) => Some(Layer::None),
-        (Some(_), None) => None,
-        (Some(name), Some(marks)) => read_layer(name, marks),
-    }
+    let Some(name) = words.next() else {
+        return Some(None);
+    };
+    let layer = read_layer(name, words.next()?)?;
+    Some(Some(layer))
 }
 
 // A bench over words, with the layers that the words after the width name.
@@ -47,18 +40,12 @@ fn bench_words(mut words: Cursor) -> Option<Blueprint>
     ensures { result ≡ bench_words (left words.entry) }
 {
     let width = read_number(words.next()?)?;
-    let bottom = next_layer(&mut words)?;
-    let middle = next_layer(&mut words)?;
-    let top = next_layer(&mut words)?;
-    if !is_ended(words) {
-        return None;
-    }
-    Some(Blueprint {
-        width,
-        bottom,
-        middle,
-        top,
-    })
+    let layers = [
+        next_layer(&mut words)?,
+        next_layer(&mut words)?,
+        next_layer(&mut words)?,
+    ];
+    words.is_ended().then_some(Blueprint { width, layers })
 }
 
 // A bench over the house pile: the poison layer of all marks over words.
@@ -66,14 +53,9 @@ fn bench_house(mut words: Cursor) -> Option<Blueprint>
     ensures { result ≡ bench_house (left words.entry) }
 {
     let width = read_number(words.next()?)?;
-    if !is_ended(words) {
-        return None;
-    }
-    Some(Blueprint {
+    words.is_ended().then_some(Blueprint {
         width,
-        bottom: Layer::Poison(Marks::all()),
-        middle: Layer::None,
-        top: Layer::None,
+        layers: [Some(Layer::Poison(Marks::all())), None, None],
     })
 }
 
@@ -81,10 +63,10 @@ pub fn bench_command(mut words: Cursor) -> Option<Blueprint>
     ensures { result ≡ bench_command (left words.entry) }
 {
     let kind = words.next()?;
-    if is_word(kind, b"words") {
+    if kind == b"words".as_slice() {
         return bench_words(words);
     }
-    if is_word(kind, b"house") {
+    if kind == b"house".as_slice() {
         return bench_house(words);
     }
     None

@@ -4,7 +4,7 @@ ghost use Rattle.scan.specs.Pieces.{left};
 ghost use Rattle.script.specs.Commands.{two_numbers, compute_command};
 
 use crate::command::Computation;
-use crate::command::number::{is_ended, read_number};
+use crate::command::number::read_number;
 use scan::Cursor;
 use vocabulary::marks::Marks;
 use vocabulary::operation::Operation;
@@ -15,10 +15,7 @@ fn two_numbers(op: Operation, marks: Marks, first: &[u8], mut words: Cursor) -> 
 {
     let a = read_number(first)?;
     let b = read_number(words.next()?)?;
-    if !is_ended(words) {
-        return None;
-    }
-    Some(Computation {
+    words.is_ended().then_some(Computation {
         operation: op,
         marks,
         first: a,
@@ -34,6 +31,7 @@ pub fn compute_command(mut words: Cursor) -> Option<Computation>
         return None;
     }
     let mut marks = Marks::NONE;
+    // Not a `for`, as the words behind the first number are passed on.
     while let Some(word) = words.next() {
         match Marks::named(word) {
             Some(mark) => marks = marks.union(mark),

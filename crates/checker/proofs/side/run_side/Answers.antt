@@ -1,24 +1,24 @@
-use Rattle.std.proofs.Common.{◌+◌, length, sym, ◌∙◌, arith}
-use Rattle.std.proofs.lemmas.List.{length-set}
+use Rattle.std.proofs.Common.{◌+◌, length, drop, ◌∙◌}
 use Rattle.domain.proofs.Outcomes.{is_a_trap}
-use Rattle.checker.proofs.Sides.{run_traps, run_more, run_ends}
+use Rattle.semantics.specs.Programs.{run}
+use Rattle.semantics.specs.Rules.{numbered}
+use Rattle.semantics.specs.Values.{env}
+use Rattle.checker.proofs.Sides.{run_traps, run_more}
 use Rattle.checker.proofs.side.run_side.Goals as goal
 
-pub returns-in_err-values : goal.returns-in_err-values
-returns-in_err-values g c =
-    is_a_trap c.from_residual.result c.from_residual.ensures.0 ∙
-    run_traps (g.D.Domain.model c.args.domain.now) c.args.variables.now (length c.args.body.now) _ c.args.body.now c.loop-i.values c.args.choices.now c.loop-i.i c.loop-i.used
-    c.at_or_zero-choice.result _ c.loop-i-test.true c.at_or_zero-choice.ensures c.loop-i.invariant.1 c.in_err-values.ensures
+pub loop-before-init : goal.loop-before-init
+loop-before-init g c =
+    let e = c.new-run.ensures in
+    λ j. run (g.D.Domain.model (e.domain j)) (e.inputs j) (length c.args.side.now.items) (numbered 1 (c.deref-instruction-items.ensures.0 j)) (e.values j) (e.choices j)
 
-pub loop-i-preserved : goal.loop-i-preserved
-loop-i-preserved g c = (
-  length-set c.loop-i.values (c.loop-i.i + 1) c.in_ok-values.field-0 ∙ c.loop-i.invariant.0,
-  run_more (g.D.Domain.model c.args.domain.now) c.args.variables.now (length c.args.body.now) _ c.args.body.now c.loop-i.values c.args.choices.now c.loop-i.i c.loop-i.used
-      c.at_or_zero-choice.result _ c.loop-i-test.true c.at_or_zero-choice.ensures c.loop-i.invariant.1
-      c.in_ok-values.field-0 c.used_after-used.result (omega (arith, c.requires, c.loop-i.invariant.0)) c.in_ok-values.ensures c.used_after-used.ensures,
-)
+pub returns-in_err-take : goal.returns-in_err-take
+returns-in_err-take g c =
+    is_a_trap c.from_residual.result c.from_residual.ensures.0 ∙ run_traps _ _ _ _ _ _ _ c.loop-before.before _ c.loop-before-test.true c.loop-before.invariant c.in_err-take.ensures.value
 
-pub returns : goal.returns
-returns g c =
-    sym (run_ends (g.D.Domain.model c.args.domain.now) c.args.variables.now (length c.args.body.now) c.args.body.now c.loop-i.values c.args.choices.now c.loop-i.i c.loop-i.used c.loop-i-test.false)
-    ∙ c.loop-i.invariant.1
+pub loop-before-preserved : goal.loop-before-preserved
+loop-before-preserved g c =
+    let i = c.loop-before.before in
+    let is = c.deref-instruction-items.result.now in
+    let new = c.take.new.self in
+    (λ j. run (g.D.Domain.model (c.take.ensures.domain j)) (c.take.ensures.inputs j) (length c.args.side.now.items) (numbered (i + 1 + 1) (drop (i + 1) is)) (env new.values) new.choices.now)
+    ∙ run_more _ _ _ _ is _ _ i _ c.loop-before-test.true c.loop-before.invariant _ _ _ c.in_ok-take.ensures.value

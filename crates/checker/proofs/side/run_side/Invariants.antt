@@ -4,9 +4,8 @@ use Rattle.semantics.specs.Rules.{numbered, side}
 use Rattle.semantics.specs.Values.{env}
 use Rattle.checker.proofs.side.run_side.Given as goal
 
--- what is left, run from the values so far, gives the outcome
-abbrev pub invariant-loop-i : goal.invariant-loop-i
-invariant-loop-i g l =
-    (length l.values ≡ 9) ×
-    (run (g.D.Domain.model l.domain) l.variables (length l.body) (numbered (l.i + 1) (drop l.i l.body)) (env l.values) (drop l.used l.choices)
-    ≡ outcome (g.D.Domain.model l.domain) (side (length l.variables) l.body) l.variables l.choices)
+-- what is left, run on from here, gives the outcome
+abbrev pub invariant-loop-before : goal.invariant-loop-before
+invariant-loop-before g l =
+    run (g.D.Domain.model l.run.domain.now) l.run.inputs.now (length l.side.items) (numbered (l.before + 1) (drop l.before l.instruction-items)) (env l.run.values) l.run.choices.now
+    ≡ outcome (g.D.Domain.model l.domain) (side (length l.variables) l.side.items) l.variables l.choices

@@ -1,46 +1,38 @@
-use Rattle.std.proofs.Common.{◌≡◌, ℕ, ◌-◌, ◌≤◌, List, [], ◌∷◌, map, length, set, sym, ap, ◌∙◌, subst, arith}
+use Rattle.std.proofs.Common.{◌≡◌, ℕ, ◌-◌, ◌≤◌, List, map, length, set, sym, ap, ◌∙◌, subst, arith}
 use Rattle.std.proofs.lemmas.List.{length-map}
 use Rattle.semantics.specs.Programs.{Placed, head}
-use Rattle.chain.specs.Chains.{Chained, link}
+use Rattle.chain.specs.Chains.{Within, link}
 use Rattle.chain.specs.Places.{put_before}
 use Rattle.chain.specs.Walks.{walk, Disjoint}
 use Rattle.chain.proofs.Places.{count_before}
+use Rattle.chain.proofs.Relinks.{by_records}
 use Rattle.chain.proofs.Moves.{Taken, takes_off, enters}
 use Rattle.program.specs.declared.record.Record.{Record}
 use Rattle.program.specs.declared.table.Table.{Table}
 use Rattle.program.specs.View.{links, instructions, placed, view}
 use Rattle.program.specs.Steps.{put_in, entered_in}
-use Rattle.program.proofs.Tables.{sound, chains_of, shows, inside}
+use Rattle.program.proofs.Tables.{sound, chains_of, shows}
 use Rattle.program.proofs.Loading.{same_instructions}
 use Rattle.program.proofs.Steps.{along_before, along_others, here}
 use Rattle.program.proofs.table.Table.enter.Goals as goal
 use Rattle.program.proofs.table.Table.enter.Goals.{After-put}
 
-some_free : (links : List ℕ) (free : ℕ) (js : List ℕ) → Chained links free js → 1 ≤ length js → free ≡ 0 → ⊥
-some_free links free [] c h z = omega arith
-some_free links free (j ∷ js) c h z = omega (arith, z, c.0, c.1)
+off : (t : Table) → 1 ≤ length (view t).free → Taken (links t.records) t.first t.free (walk (links t.records) t.first) (walk (links t.records) t.free)
+off t h = takes_off (links t.records) t.first t.free _ _ (chains_of t) h
 
-module _ (t : Table) (h : 1 ≤ length (view t).free) where
-  there : t.free ≡ 0 → ⊥
-  there = some_free (links t.records) t.free (walk (links t.records) t.free) (chains_of t).spare h
-
-  off : Taken (links t.records) t.first t.free (walk (links t.records) t.first) (walk (links t.records) t.free)
-  off = takes_off (links t.records) t.first t.free _ _ (chains_of t) there
-
-  within : (1 ≤ t.free) × (t.free ≤ length t.records)
-  within = inside t.records t.free (walk (links t.records) t.free) (chains_of t).spare there
+within : (t : Table) → 1 ≤ length (view t).free → Within t.records t.free
+within t h = by_records (λ (r : Record). r.next) t.records t.free (off t h).within
 
 pub take_front-self-requires : goal.take_front-self-requires
-take_front-self-requires c = let w = within c.args.self.now c.requires in record { low = w.0; high = w.1 }
+take_front-self-requires c = within c.args.self.now c.requires
 
 pub insert_before-self-requires : goal.insert_before-self-requires
 insert_before-self-requires c =
     let t = c.args.self.now in
-    let w = within t c.requires in
-    record { misses = (walk (links t.records) t.first, (chains_of t).used, (off t c.requires).away); low = w.0; high = w.1 }
+    record { misses = (walk (links t.records) t.first, (chains_of t).used, (off t c.requires).away); within = within t c.requires }
 
 pub put-requires : goal.put-requires
-put-requires c = let w = within c.args.self.now c.requires in record { low = w.0; high = omega (arith, w.1) }
+put-requires c = let w = within c.args.self.now c.requires in record { low = w.low; high = omega (arith, w.high) }
 
 chained : (c : After-put) → let t = c.args.self.now in
     Disjoint (links c.put.new.records) c.insert_before-self.result c.take_front-self.result (put_before c.args.place t.free (walk (links t.records) t.first)) (off t c.requires).rest
@@ -76,13 +68,13 @@ returns c =
     let is = instructions t.records in
     let rs1 = c.insert_before-self.new.records in
     let rs2 = c.put.new.records in
-    let high : at ≤ length is = omega (arith, w.1, length-map t.records (λ (r : Record). r.instruction)) in
+    let high : at ≤ length is = omega (arith, w.high, length-map t.records (λ (r : Record). r.instruction)) in
     let new : Placed = record { at = at; what = i } in
     let what : instructions rs2 ≡ set is (at - 1) i = c.put.ensures.what ∙ ap (λ l. set l (at - 1) i) (ap instructions c.insert_before-self.ensures.rest ∙ same_instructions t.records (links rs1)) in
     let body : map (placed (instructions rs2)) (put_before place at ks) ≡ put_in place new (map (placed is) ks) =
     ap (λ l. map (placed l) (put_before place at ks)) what ∙ along_before (set is (at - 1) i) place at ks ∙
-    ap (λ x. put_in place x (map (placed (set is (at - 1) i)) ks)) (here is at i w.0 high) ∙
-    ap (put_in place new) (along_others is at i w.0 high (links t.records) t.first ks (chains_of t).used o.away) in
+    ap (λ x. put_in place x (map (placed (set is (at - 1) i)) ks)) (here is at i w.low high) ∙
+    ap (put_in place new) (along_others is at i w.low high (links t.records) t.first ks (chains_of t).used o.away) in
     record {
       value = sym (ap head o.is);
       after = shows rs2 c.insert_before-self.result c.take_front-self.result t.inputs t.result (put_before place at ks) o.rest _ (chained (goal.at.returns c).After-put) body ∙ sym (ap (entered_in place i (view t)) o.is);

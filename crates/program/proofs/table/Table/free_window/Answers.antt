@@ -1,12 +1,17 @@
+use Rattle.std.proofs.Common.{ap, ◌∙◌}
+use Rattle.semantics.specs.Programs.{records}
 use Rattle.chain.specs.Walks.{walk}
-use Rattle.chain.proofs.Walks.{chained_from}
 use Rattle.program.specs.View.{links, instructions}
-use Rattle.program.proofs.Tables.{chains_of}
-use Rattle.program.proofs.Windows.{same_records}
+use Rattle.program.proofs.Tables.{chains_of, chains_end}
+use Rattle.program.proofs.Steps.{records_along}
+use Rattle.program.proofs.Windows.{shows_along}
 use Rattle.program.proofs.table.Table.free_window.Goals as goal
 
-pub invariant_of-result : goal.invariant_of-result
-invariant_of-result c = let t = c.args.self.now in record { chain = chained_from (links t.records) t.free _ (chains_of t).spare }
+pub iter-requires : goal.iter-requires
+iter-requires c = search chains_end
 
 pub returns : goal.returns
-returns c = let t = c.args.self.now in same_records (instructions t.records) (walk (links t.records) t.free)
+returns c =
+    let t = c.args.self.now in
+    let js = walk (links t.records) t.free in
+    rw c.iter.ensures (ap records (shows_along t.records t.free js (chains_of t).spare) ∙ records_along (instructions t.records) js)

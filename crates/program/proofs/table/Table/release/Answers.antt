@@ -28,7 +28,7 @@ pub push_front-self-requires : goal.push_front-self-requires
 push_front-self-requires c =
     let t = c.args.self.now in
     let w = among_within (links t.records) c.args.at t.first (walk (links t.records) t.first) (among t c.args.at c.requires) (chains_of t).used in
-    record { low = w.0; high = omega (arith, w.1, length-map t.records (λ (r : Record). r.next)) }
+    record { low = w.low; high = omega (arith, w.high, length-map t.records (λ (r : Record). r.next)) }
 
 chained : (c : After-push_front-self) → let t = c.args.self.now in
     Disjoint (links c.push_front-self.new.records) c.remove-self.result c.push_front-self.result (without c.args.at (walk (links t.records) t.first)) (c.args.at ∷ walk (links t.records) t.free)

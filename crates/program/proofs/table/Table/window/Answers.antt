@@ -1,7 +1,11 @@
-use Rattle.chain.proofs.Walks.{chained_from}
+use Rattle.chain.specs.Walks.{walk}
 use Rattle.program.specs.View.{links}
-use Rattle.program.proofs.Tables.{chains_of}
+use Rattle.program.proofs.Tables.{chains_of, chains_end}
+use Rattle.program.proofs.Windows.{shows_along}
 use Rattle.program.proofs.table.Table.window.Goals as goal
 
-pub invariant_of-result : goal.invariant_of-result
-invariant_of-result c = let t = c.args.self.now in record { chain = chained_from (links t.records) t.first _ (chains_of t).used }
+pub iter-requires : goal.iter-requires
+iter-requires c = search chains_end
+
+pub returns : goal.returns
+returns c = let t = c.args.self.now in rw c.iter.ensures (shows_along t.records t.first (walk (links t.records) t.first) (chains_of t).used)

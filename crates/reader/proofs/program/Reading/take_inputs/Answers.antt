@@ -3,33 +3,26 @@ use Rattle.scan.specs.Pieces.{left}
 use Rattle.text.specs.ProgramTexts.{in_body, twice}
 use Rattle.reader.specs.declared.fault.ReadFault.TheVariants.{Text}
 use Rattle.reader.specs.ReadFaults.{left_at}
-use Rattle.reader.specs.Scopes.{table}
 use Rattle.reader.specs.Inputs.{tabled}
 use Rattle.reader.specs.Readings.{named_all}
 use Rattle.reader.proofs.ReadFaults.{located_ok, located_err}
 use Rattle.reader.proofs.Inputs.{inputs_ruled, inputs_refused, inputs_taken}
 use Rattle.reader.proofs.program.Reading.take_inputs.Goals as goal
 
-pub returns-in_err-on_line : goal.returns-in_err-on_line
-returns-in_err-on_line c =
+pub returns-in_err-on_line-clause-value : goal.returns-in_err-on_line-clause-value
+returns-in_err-on_line-clause-value c =
     let a = c.in_err-on_line.field-0.0 in
     let (was, on) = located_err c.args.line c.read_inputs.result a (sym c.on_line.ensures ∙ c.in_err-on_line.was) in
     let is : c.from_residual.result ≡ Err (Text a) = search rules in
-    record {
-      value = λ ns e.
-          ap (left_at _) is
-          ∙ inputs_refused (ltb 8 (length ns)) (twice ns) ns a.fault _
-          (ap (tabled (table c.read_inputs.new.names)) (sym was) ∙ inputs_ruled (left c.args.words) (table c.new-self.result) _ c.read_inputs.ensures c.new-self.ensures ns e);
-      line = search rules;
-    }
+    λ ns e.
+    ap (left_at _) is
+    ∙ inputs_refused (ltb 8 (length ns)) (twice ns) ns a.fault _
+    (ap (tabled c.read_inputs.new.names) (sym was) ∙ inputs_ruled (left c.args.words) c.new-self.result _ c.read_inputs.ensures c.new-self.ensures ns e)
 
-pub returns : goal.returns
-returns c =
+pub returns-clause-value : goal.returns-clause-value
+returns-clause-value c =
     let r = c.args.self.now in
     let was = located_ok c.args.line c.read_inputs.result _ (sym c.on_line.ensures ∙ c.in_ok-on_line.was) in
-    record {
-      value = λ ns e.
-          inputs_taken (ltb 8 (length ns)) (twice ns) ns (table c.read_inputs.new.names) (λ xs. record { section = in_body; inputs = xs; body = named_all (table r.scope.instructions) r.body; result = r.result })
-          (ap (tabled (table c.read_inputs.new.names)) (sym was) ∙ inputs_ruled (left c.args.words) (table c.new-self.result) _ c.read_inputs.ensures c.new-self.ensures ns e);
-      line = tt;
-    }
+    λ ns e.
+    inputs_taken (ltb 8 (length ns)) (twice ns) ns c.read_inputs.new.names (λ xs. record { section = in_body; inputs = xs; body = named_all r.scope.instructions r.body.items; result = r.result })
+    (ap (tabled c.read_inputs.new.names) (sym was) ∙ inputs_ruled (left c.args.words) c.new-self.result _ c.read_inputs.ensures c.new-self.ensures ns e)
