@@ -1,5 +1,5 @@
 -- The words of commands: what each command is given. Assumes nothing.
-use Rattle.std.specs.Prelude.{ℕ, ◌%◌, Bool, true, false, cond, List, [], ◌∷◌, ◌++◌, Some, None, codes, Option, ◌==◌, bit_or, nat_lt}
+use Rattle.std.specs.Prelude.{ℕ, ◌%◌, cond, List, [], ◌∷◌, ◌++◌, Some, None, codes, Option, ◌==◌, bit_or, nat_lt}
 use Rattle.std.specs.Option.{option_map}
 use Rattle.vocabulary.specs.declared.marks.Marks.{Marks}
 use Rattle.vocabulary.specs.declared.operation.Operation.{Operation}

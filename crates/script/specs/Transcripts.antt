@@ -48,6 +48,7 @@ abbrev pub present : Current → State
 present None = fresh
 present (Some h) = h.state
 
+-- why a line is not obeyed
 abbrev pub refusal_seen : Refusal → Told
 refusal_seen (NoBench f) = no_bench (fault (fault_number f) 0)
 refusal_seen (Refused f) = called (CallAnswer.refused (bench_fault f))

@@ -113,10 +113,8 @@ pub fn read_line(heap: Global, line: &[u8]) -> Result<Line, AllocError>
     if begins_comment(name) {
         return Ok(Line::Skipped);
     }
-    match read_command(heap, name, words)? {
-        Some(command) => Ok(Line::Obeyed(command)),
-        None => Ok(Line::Unreadable),
-    }
+    let command = read_command(heap, name, words)?;
+    Ok(command.map_or(Line::Unreadable, Line::Obeyed))
 }
 
 fn begins_comment(word: &[u8]) -> bool

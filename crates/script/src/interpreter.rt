@@ -71,10 +71,8 @@ impl Interpreter {
     fn show(&self, number: u64) -> Result<Answer, Refusal>
         ensures { answer_seen (present (view self.now)) result ≡ show_at (view self.now) number }
     {
-        match &self.bench {
-            Some(_) => Ok(Answer::Shown),
-            None => Err(Refusal::ScriptError(number)),
-        }
+        self.bench.as_ref().ok_or(Refusal::ScriptError(number))?;
+        Ok(Answer::Shown)
     }
 
     fn obey(&mut self, number: u64, command: Command, text: &[u8]) -> Result<Answer, Refusal>

@@ -1,10 +1,10 @@
 -- A run by one instruction after the other, its values and choices in lists. Assumes nothing.
-use Rattle.std.proofs.Common.{◌≡◌, ℕ, zero, suc, ◌+◌, ◌<◌, ◌≤◌, Bool, true, false, cond, eqb, List, [], ◌∷◌, length, get_or, drop, set, replicate, sym, refl, ap, ◌∙◌, ⊎_elim, arith, Ok}
+use Rattle.std.proofs.Common.{◌≡◌, ℕ, ◌<◌, eqb, List, length, get_or, set, replicate, sym, ap, ◌∙◌, ⊎_elim, arith, Ok}
 use mathlib.Core.Path.{fun_ext}
-use Rattle.std.proofs.lemmas.Bool.{cond_both, cond-true, cond-false, eqb-true, eqb-false, cases_lt}
-use Rattle.std.proofs.lemmas.List.{get_or-set_same, get_or-set_other, drop_all, get_or_past, get_or-replicate, length-replicate}
+use Rattle.std.proofs.lemmas.Bool.{cond_both, eqb-true, eqb-false, cases_lt}
+use Rattle.std.proofs.lemmas.List.{get_or-set_same, get_or-set_other, get_or_past, get_or-replicate, length-replicate}
 use Rattle.domain.specs.Model.{Model, Outcome}
-use Rattle.semantics.specs.Programs.{Env, put, value, step, head, tail, left, is_freeze, and_then, run, nothing_yet}
+use Rattle.semantics.specs.Programs.{Env, put, value, step, head, left, and_then, run, nothing_yet}
 use Rattle.semantics.specs.Runs.{RunsOn}
 use Rattle.semantics.specs.Values.{env}
 use Rattle.semantics.specs.declared.Instruction.{Instruction}
