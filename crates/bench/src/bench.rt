@@ -43,7 +43,8 @@ impl<D: Domain> Bench<D> {
         ensures promise { Promised (D.Domain.model self.old.domain) (state self.old) (Call.load text.now) (state self.new) }
     {
         let program = read_program(&self.domain, text)?;
-        let mut table = Table::new();
+        // The former table is filled anew, and none is made for each text.
+        let mut table = self.program.take().unwrap_or_else(Table::new);
         table.load(program.body.as_slice(), program.inputs, program.result);
         self.program = Some(table);
         Ok(())

@@ -1,7 +1,7 @@
 -- Following the links gives the chain's list, and the tests tell what they should. Assumes nothing.
 use Rattle.std.proofs.Common.{◌≡◌, ℕ, zero, suc, ◌≤◌, true, not, ◌&&◌, eqb, leb, List, [], ◌∷◌, length, sym, refl, ap, ◌∙◌, subst, arith}
 use Rattle.std.proofs.lemmas.Bool.{and_parts, and_from, eqb-true, eqb-false, eq-eqb, ne_eqb, leb-true, le-leb, cond-true, cond-false, not-true, not_from_false}
-use Rattle.chain.specs.Chains.{link, Chained, Apart, Clear}
+use Rattle.chain.specs.Chains.{link, Chained, Apart, Clear, Ends}
 use Rattle.chain.specs.Walks.{follow, walk, apart, clear, chained, disjoint, Disjoint}
 use Rattle.chain.proofs.Counts.{few}
 
@@ -74,6 +74,13 @@ unfolding chained
 chained_from links first [] c = eq-eqb first 0 c
 chained_from links first (k ∷ ks) c =
     and_from _ _ (eq-eqb first k c.0) (and_from _ _ (le-leb 1 k c.1) (and_from _ _ (le-leb k (length links) c.2) (and_from _ _ (apart_from k ks c.3) (chained_from links (link links k) ks c.4))))
+
+-- the links come to an end where the walk along them is a chain
+pub ends_to : (links : List ℕ) (first : ℕ) → chained links first (walk links first) ≡ true → Ends links first
+ends_to links first e = (walk links first, chained_to links first (walk links first) e)
+
+pub ends_from : (links : List ℕ) (first : ℕ) → Ends links first → chained links first (walk links first) ≡ true
+ends_from links first e = ap (chained links first) (walks links first e.0 e.1) ∙ chained_from links first e.0 e.1
 
 pub disjoint_to : (links : List ℕ) (first free : ℕ) → disjoint links first free ≡ true → Disjoint links first free (walk links first) (walk links free)
 unfolding disjoint

@@ -12,8 +12,10 @@ ghost use Rattle.chain.specs.Chains.{Chained, Apart, OthersStay, Becomes, OnlyLi
 ghost use Rattle.chain.specs.Places.{put_before, without, predecessor, Inserts};
 
 mod links;
+mod walk;
 
-pub use links::{Links, iter};
+pub use links::Links;
+pub use walk::iter;
 
 // A record that holds the number of the next. Linking it leaves all else that it holds.
 pub trait Linked {

@@ -1,44 +1,29 @@
 // A walk along a chain.
-ghost use Rattle.std.specs.Prelude.{◌≡◌, ⊤, ℕ, List, map};
+ghost use Rattle.std.specs.Prelude.{◌≡◌, ⊤, true, map};
 ghost use Rattle.std.specs.Iterator.{YieldsFirstBy, item_count};
 ghost use Rattle.chain.specs.Chains.{Ends};
 ghost use Rattle.chain.specs.Records.{records_at};
-ghost use Rattle.chain.specs.Walks.{walk};
+ghost use Rattle.chain.specs.Walks.{walk, chained};
 
 use crate::Linked;
 use std::alloc::AllocError;
-use std::marker::Model;
 
-// The records of a chain in their order, each with its number, seen as the list of those that are left.
-#[derive(Drop)]
+// The records of a chain that are left, in their order, each with its number.
 pub struct Links<'a, R: Linked> {
-    records: &'a [R],
+    pub(super) records: &'a [R],
     // the first of those that are left, or 0
-    at: u8,
-}
-
-impl<'a, R: Linked> Model for Links<'a, R> {
-    ghost Value = { List (ℕ × R) };
-
-    ghost view = { λ it. records_at it.records.now (walk (map R.Linked.successor it.records.now) it.at) };
-
-    ghost invariant = { λ it. Ends (map R.Linked.successor it.records.now) it.at };
-}
-
-// The records along the chain from `first`. The caller owes a chain.
-pub fn iter<R: Linked>(records: &[R], first: u8) -> Links<'_, R>
-    requires { Ends (map R.Linked.successor records.now) first }
-    ensures { result ≡ records_at records.now (walk (map R.Linked.successor records.now) first) }
-{
-    Links { records, at: first }
+    pub(super) at: u8,
+    ghost chain: { chained (map R.Linked.successor records.now) at (walk (map R.Linked.successor records.now) at) ≡ true },
 }
 
 impl<'a, R: Linked> Iterator for Links<'a, R> {
     type Item = (u8, &'a R);
 
-    ghost next_gives = { YieldsFirstBy (λ item. (item.0, item.1.now)) (λ left. left) };
+    ghost use Rattle.chain.specs.Links.{links_left};
 
-    ghost remaining = { item_count (λ left. left) };
+    ghost next_gives = { YieldsFirstBy (λ item. (item.0, item.1.now)) links_left };
+
+    ghost remaining = { item_count links_left };
 
     fn next(&mut self) -> Option<(u8, &'a R)> {
         let at = self.at;
@@ -57,9 +42,8 @@ impl<'a, R: Linked> Clone for Links<'a, R> {
     ghost is_infallible = { λ _. ⊤ };
 
     fn clone(&self) -> Result<Self, AllocError> {
-        Ok(Links {
-            records: self.records,
-            at: self.at,
-        })
+        Ok(*self)
     }
 }
+
+impl<'a, R: Linked> Copy for Links<'a, R> {}

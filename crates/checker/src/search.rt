@@ -1,5 +1,6 @@
 // The search for a case that refutes a rule.
 ghost use Rattle.std.specs.Prelude.{◌≡◌, replicate};
+ghost use Rattle.copy_vec.specs.Items.{items};
 ghost use Rattle.semantics.specs.Cases.{tuples, settled_codes, none, freezes_in, refutes, first_refuting, SearchExact};
 ghost use Rattle.semantics.specs.Held.{rule_of};
 ghost use Rattle.checker.specs.Walks.{first_digits};
@@ -21,7 +22,7 @@ fn unmatched<D: Domain>(
 ) -> bool
     requires alone { choices.variable_count ≡ 0 }
     requires digits { choices.digits ≡ first_digits 0 codes.now.least }
-    ensures { result ≡ none (allows (D.Domain.model codes.now.domain.now) ours source.now.items variables.now) (tuples (replicate choices.choice_count (settled_codes (D.Domain.model codes.now.domain.now)))) }
+    ensures { result ≡ none (allows (D.Domain.model codes.now.domain.now) ours (items source.now) variables.now) (tuples (replicate choices.choice_count (settled_codes (D.Domain.model codes.now.domain.now)))) }
 {
     let mut next = Some(choices);
     while let Some(choices) = next {

@@ -1,5 +1,6 @@
 // A side of a rule run.
 ghost use Rattle.std.specs.Prelude.{◌≡◌, ◌≤◌, length};
+ghost use Rattle.copy_vec.specs.Items.{items};
 ghost use Rattle.semantics.specs.Programs.{outcome};
 ghost use Rattle.semantics.specs.Rules.{side as as_program};
 ghost use Rattle.semantics.specs.Cases.{freezes_in, outcome_refining};
@@ -10,7 +11,7 @@ use semantics::run::Run;
 
 // How many choices a side uses up.
 pub fn count_freezes(side: &Side) -> u8
-    ensures value { result ≡ freezes_in side.now.items }
+    ensures value { result ≡ freezes_in (items side.now) }
     ensures few { result ≤ 8 }
 {
     side.iter()
@@ -20,7 +21,7 @@ pub fn count_freezes(side: &Side) -> u8
 
 // The outcome of a side at these variables and choices.
 pub fn run_side<D: Domain>(domain: &D, side: &Side, variables: &[u16], choices: &[u16]) -> Outcome
-    ensures { result ≡ outcome (D.Domain.model domain.now) (as_program (length variables.now) side.now.items) variables.now choices.now }
+    ensures { result ≡ outcome (D.Domain.model domain.now) (as_program (length variables.now) (items side.now)) variables.now choices.now }
 {
     // the numbers of the instructions begin at 1
     let mut run = Run::<D, 9>::new(domain, variables, choices);

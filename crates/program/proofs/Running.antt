@@ -1,5 +1,5 @@
 -- A run along the program, an instruction at a time. Assumes nothing.
-use Rattle.std.proofs.Common.{◌≡◌, ℕ, ◌<◌, List, ◌∷◌, sym, refl, ap, ◌∙◌, subst, Ok}
+use Rattle.std.proofs.Common.{◌≡◌, ℕ, ◌<◌, List, ◌∷◌, sym, ap, ◌∙◌, subst, Ok}
 use Rattle.std.specs.List.{AllByRecursion}
 use Rattle.domain.specs.Model.{Model, Outcome, trap}
 use Rattle.semantics.specs.Programs.{Env, Placed, run}

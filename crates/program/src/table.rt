@@ -30,6 +30,7 @@ impl Table {
     ghost use Rattle.semantics.specs.Fitting.{look};
     ghost use Rattle.semantics.specs.Programs.{records as records_of};
     ghost use Rattle.program.specs.View.{view};
+    ghost use Rattle.program.specs.Windows.{shown};
 
     // How many inputs the program has.
     pub fn inputs(&self) -> u8
@@ -63,7 +64,7 @@ impl Table {
 
     // The program's instructions in order.
     pub fn window(&self) -> Window<'_>
-        ensures { result ≡ (view self.now).program.body }
+        ensures { shown result ≡ (view self.now).program.body }
     {
         Window {
             links: chain::iter(&self.records, self.first),
@@ -72,7 +73,7 @@ impl Table {
 
     // The free records, the first to be taken first; what stands in them is no part of the program.
     pub fn free_window(&self) -> Window<'_>
-        ensures { records_of result ≡ (view self.now).free }
+        ensures { records_of (shown result) ≡ (view self.now).free }
     {
         Window {
             links: chain::iter(&self.records, self.free),

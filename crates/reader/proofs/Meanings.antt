@@ -1,7 +1,7 @@
 -- Instruction lines by their tokens against what they spell. Assumes nothing.
 use Rattle.std.proofs.Common.{◌≡◌, ℕ, ◌+◌, ◌≤◌, Bool, true, false, cond, ◌||◌, List, [], ◌∷◌, map, length, Some, None, Ok, Err, Result, sym, refl, ap, ◌∙◌, arith}
 use lib.Bits.{bit_or}
-use Rattle.std.proofs.lemmas.List.{length-map}
+use Rattle.std.proofs.lemmas.List.{length-map, length-take}
 use Rattle.std.proofs.lemmas.Bool.{or_parts}
 use Rattle.domain.specs.declared.fault.DomainFault.{DomainFault}
 use Rattle.domain.specs.declared.fault.DomainFault.TheVariants.{NoSettledCode}
@@ -21,7 +21,7 @@ use Rattle.reader.specs.declared.fault.TextFault.{TextFault}
 use Rattle.reader.specs.declared.fault.TextFault.TheVariants.{NumberOutside, TooMany, BadName}
 use Rattle.reader.specs.declared.fault.At.{At}
 use Rattle.reader.specs.declared.written.Written.{Written}
-use Rattle.reader.specs.Tokens.{Seen, seen, told, tokens, Spells}
+use Rattle.reader.specs.Tokens.{Seen, seen, told, taken, tokens, Spells}
 use Rattle.reader.specs.ReadFaults.{located, answered}
 use Rattle.reader.specs.Meanings.{far, strange, some_far, some_strange, text_fault, meaning, meaning_at, and_then, instruction_of, domain_on, found_on, marks_or_fault}
 use Rattle.reader.proofs.Told.{far_told, strange_told, meaning_told, any_told}
@@ -123,7 +123,7 @@ module _ (m : Model) (ns : Names) (w : Written) (s : Spelt) (spells : Spells w s
   instruction_told : number_outside s ≡ false → bad_marks s.operation s.marks ≡ false → instruction_of m ns told_marks w ≡ cond (code_missing m s) (Err NoSettledCode) (Ok (instruction m ns s))
   instruction_told near fine =
       let bits = bit_or (facts w.operation).unwritten (sum s.marks) in
-      all_filled w.operation bits m ns (tokens w) (omega (arith, length-map w.operands.items seen, w.taken, few_operands w.operation))
+      all_filled w.operation bits m ns (tokens w) (omega (arith, length-map (taken w) seen, length-take (operand_count w.operation) (w.first ∷ w.second ∷ w.third ∷ []), few_operands w.operation))
       ∙ ap (λ ts. from_all w.operation bits (gathered (map (meaning m ns) ts))) spells.operands
       ∙ ap (from_all w.operation bits) (gathered_told m ns s.arguments near)
       ∙ made_told m ns w.operation bits (code_missing m s) (map (operand m ns) s.arguments)

@@ -1,5 +1,5 @@
 -- Operands read one after another, against the arguments of a line.
-use Rattle.std.proofs.Common.{◌≡◌, ℕ, ◌≤◌, Bool, true, false, eqb, List, [], ◌∷◌, ◌++◌, map, length, Some, None, Option, sym, refl, ap, ◌∙◌, append_assoc, append-nil, arith, length-append}
+use Rattle.std.proofs.Common.{◌≡◌, ℕ, ◌≤◌, Bool, true, false, eqb, List, [], ◌∷◌, ◌++◌, map, length, take, slice_index_or, Some, None, Option, sym, refl, ap, ◌∙◌, append_assoc, append-nil, arith, length-append}
 use Rattle.std.proofs.lemmas.Bool.Decides.{nat_tests}
 use Rattle.std.proofs.lemmas.List.{length-map}
 use Rattle.std.specs.Option.{option_map}
@@ -75,6 +75,17 @@ mapped_none f None e = refl
 mapped_some : {A B : Type 0} (f : A → B) (o : Option A) (y : B) → Some y ≡ option_map f o → (x : A) × (o ≡ Some x) × (y ≡ f x)
 mapped_some f (Some x) y e = (x, refl, cc)
 mapped_some f None y e = absurd (no_some e)
+
+-- up to three operands by their places
+pub placed : {A : Type 0} (d : A) (xs : List A) (n : ℕ) → length xs ≡ n → length xs ≤ 3 → take n (slice_index_or xs 0 d ∷ slice_index_or xs 1 d ∷ slice_index_or xs 2 d ∷ []) ≡ xs
+placed {A} d xs n e few = ap (λ k. take k (slice_index_or xs 0 d ∷ slice_index_or xs 1 d ∷ slice_index_or xs 2 d ∷ [])) (sym e) ∙ go xs few
+  where
+    go : (xs : List A) → length xs ≤ 3 → take (length xs) (slice_index_or xs 0 d ∷ slice_index_or xs 1 d ∷ slice_index_or xs 2 d ∷ []) ≡ xs
+    go [] h = refl
+    go (x ∷ []) h = refl
+    go (x ∷ y ∷ []) h = refl
+    go (x ∷ y ∷ z ∷ []) h = refl
+    go (x ∷ y ∷ z ∷ t ∷ ts) h = absurd (omega arith)
 
 abbrev pub spelt : Bytes → Operation → List Bytes → List Argument → Written
 spelt name op ws args = record { name = name; operation = op; marks = leading_marks ws; arguments = args }

@@ -15,17 +15,19 @@ use Rattle.reader.specs.declared.fault.TextFault.TheVariants.{NumberOutside, Too
 use Rattle.reader.specs.declared.fault.ReadFault.{ReadFault}
 use Rattle.reader.specs.declared.fault.ReadFault.TheVariants.{Text, Domain}
 use Rattle.reader.specs.declared.written.Written.{Written}
-use Rattle.reader.specs.Tokens.{Seen, is_name, is_number, is_code, tokens}
+use Rattle.reader.specs.Tokens.{Seen, is_name, is_number, is_code, is_word, tokens}
 
 abbrev pub far : Seen → Bool
 far (is_name n) = false
 far (is_number z) = outside (a_number z)
 far (is_code c) = outside (a_code c)
+far (is_word w) = false
 
 abbrev pub strange : Names → Seen → Bool
 strange ns (is_name n) = not (known ns n)
 strange ns (is_number z) = false
 strange ns (is_code c) = false
+strange ns (is_word w) = false
 
 abbrev pub some_far : Written → Bool
 some_far w = any far (tokens w)
@@ -53,6 +55,7 @@ abbrev pub meaning : Model → Names → Seen → Result Operand DomainFault
 meaning m ns (is_name n) = Ok (named (place n ns.instructions) (place n ns.variables))
 meaning m ns (is_number z) = constant_of (literal_code m z)
 meaning m ns (is_code c) = constant_of (settled_code m c)
+meaning m ns (is_word w) = Ok filler
 
 -- the filler where there is no operand
 abbrev pub meaning_or_filler : Model → Names → Option Seen → Result Operand DomainFault

@@ -1,5 +1,6 @@
 -- What a text of a program was read to. Assumes nothing.
 use Rattle.std.specs.Prelude.{Ok, Err, Result}
+use Rattle.copy_vec.specs.Items.{items}
 use Rattle.semantics.specs.Programs.{Program}
 use Rattle.semantics.specs.Rules.{numbered}
 use Rattle.text.specs.Faults.{Read, accepted, refused}
@@ -9,7 +10,7 @@ use Rattle.reader.specs.ReadFaults.{read_fault}
 
 -- the program in the records 1, 2, 3, …
 abbrev pub program_in : ProgramText → Program
-program_in p = record { inputs = p.inputs; body = numbered 1 p.body.items; result = p.result }
+program_in p = record { inputs = p.inputs; body = numbered 1 (items p.body); result = p.result }
 
 abbrev pub read_of : Result ProgramText ReadFault → Read Program
 read_of (Ok p) = accepted (program_in p)

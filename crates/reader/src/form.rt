@@ -1,6 +1,7 @@
 // The form of a line.
-ghost use Rattle.std.specs.Prelude.{◌≡◌, length, map, is_some, codes, IfSome};
+ghost use Rattle.std.specs.Prelude.{◌≡◌, length, map, slice_index_or, is_some, codes, pos, IfSome};
 ghost use Rattle.std.specs.Option.{option_map};
+ghost use Rattle.copy_vec.specs.Items.{items};
 ghost use Rattle.vocabulary.specs.Names.{operand_count};
 ghost use Rattle.scan.specs.declared.Separators.TheVariants.{SpacesAndCommas};
 ghost use Rattle.scan.specs.Pieces.{left, words as words_by};
@@ -8,18 +9,19 @@ ghost use Rattle.text.specs.Words.{each, name as name_in};
 ghost use Rattle.text.specs.Forms.{lone, arguments, leading_marks, behind_marks, written, form, form_of, opens_rule, opens_in, opens_ret, opens_instruction};
 ghost use Rattle.text.specs.Faults.{skipped};
 ghost use Rattle.reader.specs.Marks.{next_mark, after_mark, marks_of};
+ghost use Rattle.reader.specs.declared.token.Token.TheVariants.{Number};
 ghost use Rattle.reader.specs.Tokens.{Formed, seen, told};
 
 use crate::facts::permitted_marks;
 use crate::token::{Token, is_plain_name, name_of};
 use crate::written::Written;
-use arrayvec::ArrayVec;
+use copy_vec::CopyVec;
 use scan::{Cursor, Separators};
 use vocabulary::marks::Marks;
 use vocabulary::operation::Operation;
 
 // What a line is, by its words. `In` holds the names that are still to be read.
-#[derive(Drop)]
+#[derive(Clone, Copy)]
 pub enum Form<'a> {
     Rule,
     Arrow,
@@ -100,15 +102,22 @@ fn read_marks(op: Operation, words: &mut Cursor) -> Option<Marks>
 }
 
 // The operands, where every word is one and they are as many as the operation takes.
-fn read_operands<'a>(op: Operation, words: Cursor<'a>) -> Option<ArrayVec<Token<'a>, 3>>
-    ensures value { option_map (λ t. map seen t.items) result ≡ option_map (map told) (arguments op (left words.entry)) }
-    ensures taken { IfSome result (λ t. length t.items ≡ operand_count op) }
+fn read_operands<'a>(op: Operation, words: Cursor<'a>) -> Option<CopyVec<Token<'a>, 3>>
+    ensures value { option_map (λ t. map seen (items t)) result ≡ option_map (map told) (arguments op (left words.entry)) }
+    ensures taken { IfSome result (λ t. length (items t) ≡ operand_count op) }
 {
-    let mut operands = ArrayVec::new();
+    let mut operands = CopyVec::new();
     for word in words {
-        operands.try_push(Token::of(word)?).ok()?;
+        operands.try_push(Token::operand_of(word)?).ok()?;
     }
     (operands.len() == op.operand_count() as usize).then_some(operands)
+}
+
+// The operand in a place, or the number 0 in one that is not used.
+fn operand_at<'a>(operands: &[Token<'a>], place: usize) -> Token<'a>
+    ensures { result ≡ slice_index_or operands.now place (Number (pos 0)) }
+{
+    operands.get(place).copied().unwrap_or_default()
 }
 
 // `MARK* OPERAND*` after `%NAME = OP`
@@ -121,7 +130,9 @@ fn read_written<'a>(name: &'a [u8], operation: Operation, mut words: Cursor<'a>)
         name,
         operation,
         marks,
-        operands,
+        first: operand_at(&operands, 0),
+        second: operand_at(&operands, 1),
+        third: operand_at(&operands, 2),
     }))
 }
 

@@ -1,5 +1,6 @@
 // What an instruction line means where it stands, and its faults.
-ghost use Rattle.std.specs.Prelude.{◌≡◌, false, OnOk};
+ghost use Rattle.std.specs.Prelude.{◌≡◌, [], ◌∷◌, take, false, OnOk};
+ghost use Rattle.vocabulary.specs.Names.{operand_count};
 ghost use Rattle.text.specs.Faults.{unless};
 ghost use Rattle.text.specs.Forms.{Written as Spelt};
 ghost use Rattle.text.specs.Instructions.{instruction, instruction_fault};
@@ -17,6 +18,7 @@ use domain::Domain;
 use domain::fault::{DomainFault, literal_code, settled_code};
 use semantics::{Instruction, Operand};
 use vocabulary::marks::Marks;
+use vocabulary::operation::Operation;
 
 // Whether a number is outside -128 to 255, or a code over 65,535.
 fn is_outside(token: Token) -> bool
@@ -25,14 +27,34 @@ fn is_outside(token: Token) -> bool
     match token {
         Token::Number(n) => n < -128 || n > 255,
         Token::Code(c) => c > 65535,
-        Token::Name(_) => false,
+        Token::Name(_) | Token::Word(_) => false,
     }
+}
+
+impl<'a> Written<'a> {
+    // The places of operands, of which the operation takes the first ones.
+    fn places(&self) -> [Token<'a>; 3]
+        ensures { result ≡ self.now.first ∷ self.now.second ∷ self.now.third ∷ [] }
+    {
+        [self.first, self.second, self.third]
+    }
+}
+
+// The operands that an operation takes, by their places.
+fn taken<'p, 'a>(operation: Operation, places: &'p [Token<'a>]) -> &'p [Token<'a>]
+    ensures { result.now ≡ take (operand_count operation) places.now }
+{
+    let count = operation.operand_count() as usize;
+    places.get(..count).unwrap_or(places)
 }
 
 fn number_outside(written: &Written) -> bool
     ensures { result ≡ some_far written.now }
 {
-    written.operands.iter().any(|&token| is_outside(token))
+    let places = written.places();
+    taken(written.operation, &places)
+        .iter()
+        .any(|&token| is_outside(token))
 }
 
 impl<'a> Scope<'a> {
@@ -50,7 +72,10 @@ impl<'a> Scope<'a> {
     fn some_unknown(&self, written: &Written) -> bool
         ensures { result ≡ some_strange (known_names self.now) written.now }
     {
-        written.operands.iter().any(|&token| self.is_unknown(token))
+        let places = written.places();
+        taken(written.operation, &places)
+            .iter()
+            .any(|&token| self.is_unknown(token))
     }
 
     // The written marks, or the first fault that takes no domain to tell.
@@ -79,6 +104,7 @@ impl<'a> Scope<'a> {
             Token::Name(name) => Ok(self.named(name)),
             Token::Number(n) => Ok(Operand::Constant(literal_code(domain, n as i16)?)),
             Token::Code(c) => Ok(Operand::Constant(settled_code(domain, c as u16)?)),
+            Token::Word(_) => Ok(Operand::default()),
         }
     }
 
@@ -92,7 +118,8 @@ impl<'a> Scope<'a> {
         requires { some_far written.now ≡ false }
         ensures { result ≡ meaning_at (D.Domain.model domain.now) (known_names self.now) (tokens written.now) place }
     {
-        match written.operands.get(place) {
+        let places = written.places();
+        match taken(written.operation, &places).get(place) {
             Some(&token) => self.meaning(domain, token),
             None => Ok(Operand::default()),
         }

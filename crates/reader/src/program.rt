@@ -1,18 +1,20 @@
 // Texts of programs.
 ghost use Rattle.std.specs.Prelude.{◌≡◌, length};
+ghost use Rattle.copy_vec.specs.Items.{items};
+ghost use Rattle.reader.specs.NameTables.{names_in};
 
 use crate::scope::Scope;
-use arrayvec::ArrayVec;
+use copy_vec::CopyVec;
 pub use read::read_program;
 use semantics::Instruction;
 
 pub mod read;
 
 // A program as a text gives it: so many inputs, its instructions in the records 1, 2, 3, …, and the record of its result.
-#[derive(Drop)]
+#[derive(Clone, Copy)]
 pub struct ProgramText {
     pub inputs: u8,
-    pub body: ArrayVec<Instruction, 64>,
+    pub body: CopyVec<Instruction, 64>,
     pub result: u8,
 }
 
@@ -25,11 +27,11 @@ enum Section {
 }
 
 // What the lines so far say.
-#[derive(Drop)]
+#[derive(Clone, Copy)]
 struct Reading<'a> {
     section: Section,
     scope: Scope<'a>,
-    body: ArrayVec<Instruction, 64>,
+    body: CopyVec<Instruction, 64>,
     result: u8,
-    ghost all_named: { length scope.instructions ≡ length body.items },
+    ghost all_named: { length (names_in scope.instructions) ≡ length (items body) },
 }

@@ -7,7 +7,7 @@ use crate::names::Names;
 use semantics::Operand;
 
 // Variables of a rule or inputs of a program, and the instructions before the line.
-#[derive(Drop)]
+#[derive(Clone, Copy)]
 pub struct Scope<'a> {
     pub variables: Names<'a>,
     pub instructions: Names<'a>,

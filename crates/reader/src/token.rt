@@ -4,17 +4,19 @@ ghost use Rattle.std.specs.Option.{option_map};
 ghost use Rattle.scan.specs.Numbers.{decimal_of};
 ghost use Rattle.text.specs.Words.{plain, after, name, argument, and_then};
 ghost use Rattle.reader.specs.declared.token.Token.TheVariants.{Number};
-ghost use Rattle.reader.specs.Tokens.{seen, told, Bounded};
+ghost use Rattle.reader.specs.Tokens.{seen, told, token_of, Bounded};
 
 use scan::decimal;
 
-// An operand. Numbers beyond 65,536 are told as 65,536, with their sign.
+// A word in an operand's place. Numbers beyond 65,536 are told as 65,536, with their sign.
 #[derive(Clone, Copy)]
 pub enum Token<'a> {
     // without its `%`
     Name(&'a [u8]),
     Number(i32),
     Code(u32),
+    // any other word
+    Word(&'a [u8]),
 }
 
 // What stands where there is no operand.
@@ -56,21 +58,33 @@ fn signed_decimal(word: &[u8], sign: u8) -> Option<u32>
 }
 
 impl<'a> Token<'a> {
+    pub fn of(word: &'a [u8]) -> Token<'a>
+        ensures value { seen result ≡ token_of (argument word.now) word.now }
+        ensures bound { Bounded result }
+    {
+        if let Some(name) = name_of(word) {
+            return Token::Name(name);
+        }
+        if let Some(n) = decimal(word) {
+            return Token::Number(n as i32);
+        }
+        if let Some(n) = signed_decimal(word, b'-') {
+            return Token::Number(-(n as i32));
+        }
+        match signed_decimal(word, b'#') {
+            Some(code) => Token::Code(code),
+            None => Token::Word(word),
+        }
+    }
+
     // The operand that a word is, if it is one.
-    pub fn of(word: &'a [u8]) -> Option<Token<'a>>
+    pub fn operand_of(word: &'a [u8]) -> Option<Token<'a>>
         ensures value { option_map seen result ≡ option_map told (argument word.now) }
         ensures bound { IfSome result Bounded }
     {
-        if let Some(name) = name_of(word) {
-            return Some(Token::Name(name));
+        match Token::of(word) {
+            Token::Word(_) => None,
+            operand => Some(operand),
         }
-        if let Some(n) = decimal(word) {
-            return Some(Token::Number(n as i32));
-        }
-        if let Some(n) = signed_decimal(word, b'-') {
-            return Some(Token::Number(-(n as i32)));
-        }
-        let code = signed_decimal(word, b'#')?;
-        Some(Token::Code(code))
     }
 }

@@ -1,12 +1,8 @@
 -- The first piece of a text, and the first word among pieces.
 use Rattle.std.proofs.Common.{◌≡◌, ℕ, suc, ◌+◌, ◌<◌, ◌≤◌, Bool, true, false, not, cond, List, [], ◌∷◌, length, take, drop, Some, None, Option, sym, refl, ap, ◌∙◌, one-add, arith, Bor}
-use denote.Param.Members.{Mut}
-use Rattle.std.specs.Fn.{CalledAt}
-use Rattle.std.specs.Iterator.{Yields, FindsItem, YieldsFirstRef}
-use Rattle.std.specs.List.{FoldsTo, position_or_len, before_first, after_first}
+use Rattle.std.specs.List.{position_or_len, before_first, after_first}
 use Rattle.std.specs.Option.{MatchOption}
-use Rattle.scan.specs.declared.Pieces.{Pieces}
-use Rattle.scan.specs.Pieces.{Bytes, byte_before, pieces, non_empty, pieces_left}
+use Rattle.scan.specs.Pieces.{Bytes, byte_before, pieces, non_empty}
 
 pieces_cut : (ends : ℕ → Bool) (b : ℕ) (bs : Bytes) → pieces ends (b ∷ bs) ≡ before_first ends (b ∷ bs) ∷ pieces ends (after_first ends (b ∷ bs))
 pieces_cut ends b [] = last (ends b)
@@ -37,25 +33,38 @@ pub first_piece : (ends : ℕ → Bool) (text piece rest : Bytes) → 0 < length
 first_piece ends [] piece rest h e f = absurd (omega arith)
 first_piece ends (b ∷ bs) piece rest h e f = pieces_cut ends b bs ∙ λ j. sym e j ∷ pieces ends (sym f j)
 
--- where a test tells the pieces that are not empty, the first that passes is the first word
-module _ {F : Type 0} (g : Mut F (Bor (Bor Bytes) × Unit {0}) Bool)
-    (fails : (f : F) (x : Bor Bytes) (h : F) → CalledAt g f x false h → length x.now ≡ 0)
-    (passes : (f : F) (x : Bor Bytes) (h : F) → CalledAt g f x true h → 0 < length x.now) where
-  abbrev words_of : Pieces → List Bytes
-  words_of p = non_empty (pieces_left p)
+-- the separators at the front come before no word
+words_skip : (ends : ℕ → Bool) (bs : Bytes) → non_empty (pieces ends bs) ≡ non_empty (pieces ends (drop (position_or_len (λ b. not (ends b)) bs) bs))
+words_skip ends [] = refl
+words_skip ends (b ∷ bs) = go (ends b) (position_or_len (λ c. not (ends c)) bs) refl (words_skip ends bs)
+  where
+    go : (t : Bool) (n : ℕ) → ends b ≡ t → non_empty (pieces ends bs) ≡ non_empty (pieces ends (drop n bs)) → non_empty (byte_before t b (pieces ends bs)) ≡ non_empty (pieces ends (drop (cond (not (not t)) (1 + n) 0) (b ∷ bs)))
+    go true n e h = h ∙ ap (λ k. non_empty (pieces ends (drop k (b ∷ bs)))) (sym (one-add n))
+    go false n e h = ap (λ t. non_empty (byte_before t b (pieces ends bs))) (sym e)
 
-  empty_first : (w : Bytes) (ps : List Bytes) → length w ≡ 0 → non_empty (w ∷ ps) ≡ non_empty ps
-  empty_first [] ps h = refl
-  empty_first (b ∷ w) ps h = absurd (omega arith)
+-- a piece that begins behind them is not empty
+starts_word : (ends : ℕ → Bool) (bs w : Bytes) (ws : List Bytes) → pieces ends (drop (position_or_len (λ b. not (ends b)) bs) bs) ≡ w ∷ ws → 0 < length w
+starts_word ends [] w ws e = absurd (cc)
+starts_word ends (b ∷ bs) w ws e = go (ends b) (position_or_len (λ c. not (ends c)) bs) refl (starts_word ends bs w ws) e
+  where
+    begun : (ps : List Bytes) → byte_before false b ps ≡ w ∷ ws → 0 < length w
+    begun [] h = let k : w ≡ b ∷ [] = cc in omega (arith, ap length k)
+    begun (p ∷ ps) h = let k : w ≡ b ∷ p = cc in omega (arith, ap length k)
 
-  word_first : (w : Bytes) (ps : List Bytes) → 0 < length w → non_empty (w ∷ ps) ≡ w ∷ non_empty ps
-  word_first [] ps h = absurd (omega arith)
-  word_first (b ∷ w) ps h = refl
+    go : (t : Bool) (n : ℕ) → ends b ≡ t → (pieces ends (drop n bs) ≡ w ∷ ws → 0 < length w) → pieces ends (drop (cond (not (not t)) (1 + n) 0) (b ∷ bs)) ≡ w ∷ ws → 0 < length w
+    go true n s next h = next (ap (λ k. pieces ends (drop k (b ∷ bs))) (sym (one-add n)) ∙ h)
+    go false n s next h = begun (pieces ends bs) (ap (λ t. byte_before t b (pieces ends bs)) (sym s) ∙ h)
 
-  empty_passed : (xs : List (Bor Bytes)) (s t : Pieces) (f h : F) → Yields (YieldsFirstRef pieces_left) s xs t → FoldsTo (λ p x q. CalledAt g p x false q) f xs h → words_of s ≡ words_of t
-  empty_passed [] s t f h y c = ap words_of y
-  empty_passed (x ∷ xs) s t f h (j, e, y) (k, c, d) = ap non_empty e ∙ empty_first x.now (pieces_left j) (fails f x k c) ∙ empty_passed xs j t k h y d
+word_first : (w : Bytes) (ps : List Bytes) → 0 < length w → non_empty (w ∷ ps) ≡ w ∷ non_empty ps
+word_first [] ps h = absurd (omega arith)
+word_first (b ∷ w) ps h = refl
 
-  pub word_found : (s u : Pieces) (f : F) (r : Option (Bor Bytes)) → FindsItem (YieldsFirstRef pieces_left) g s f r u → MatchOption r ((words_of s ≡ []) × (words_of u ≡ [])) (λ x. words_of s ≡ x.now ∷ words_of u)
-  word_found s u f None (xs, h, (t, y, e), c, d) = (empty_passed xs s t f h y c ∙ ap non_empty e.0, ap non_empty e.1)
-  word_found s u f (Some x) (xs, h, (t, y, e), c, (k, d)) = empty_passed xs s t f h y c ∙ ap non_empty e ∙ word_first x.now (pieces_left u) (passes h x k d)
+-- so the first piece behind them is the first word
+pub word_found :
+    (ends : ℕ → Bool) (bs rest : Bytes) (us : List Bytes) (r : Option (Bor Bytes)) → rest ≡ drop (position_or_len (λ b. not (ends b)) bs) bs →
+    MatchOption r ((pieces ends rest ≡ []) × (us ≡ [])) (λ x. pieces ends rest ≡ x.now ∷ us) →
+    MatchOption r ((non_empty (pieces ends bs) ≡ []) × (non_empty us ≡ [])) (λ x. non_empty (pieces ends bs) ≡ x.now ∷ non_empty us)
+word_found ends bs rest us None e h = (words_skip ends bs ∙ ap non_empty (ap (pieces ends) (sym e) ∙ h.0), ap non_empty h.1)
+word_found ends bs rest us (Some x) e h =
+    let begins = ap (pieces ends) (sym e) ∙ h in
+    words_skip ends bs ∙ ap non_empty begins ∙ word_first x.now us (starts_word ends bs x.now us begins)

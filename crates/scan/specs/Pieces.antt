@@ -59,6 +59,10 @@ after_line text = after_first (separates LineFeeds) text
 abbrev pub pieces_left : Pieces → List Bytes
 pieces_left p = pieces (separates p.separators) p.rest.now
 
+-- the pieces that are still to come and are not empty
+abbrev pub words_left : Pieces → List Bytes
+words_left p = non_empty (pieces_left p)
+
 -- the words that a cursor has still to give
 abbrev pub left : Cursor → List Bytes
 left c = words c.pieces.separators c.pieces.rest.now

@@ -1,10 +1,10 @@
 // Lines, words and decimal numbers of a text of bytes, read in place.
 #![tactic(auto)]
 
-ghost use Rattle.std.specs.Prelude.{◌≡◌, ◌<◌, ◌≤◌, ◌∷◌, length, IfSome};
+ghost use Rattle.std.specs.Prelude.{◌≡◌, ◌<◌, ◌≤◌, ◌∷◌, length, drop, not, IfSome};
 ghost use Rattle.std.specs.Iterator.{YieldsFirstRef, item_count};
-ghost use Rattle.std.specs.List.{before_first, after_first};
-ghost use Rattle.scan.specs.Pieces.{separates, pieces, first_line, after_line, lines, words, pieces_left, left, no_word};
+ghost use Rattle.std.specs.List.{before_first, after_first, position_or_len};
+ghost use Rattle.scan.specs.Pieces.{separates, pieces, first_line, after_line, lines, words, pieces_left, words_left, left, no_word};
 ghost use Rattle.scan.specs.Numbers.{decimal_of};
 
 // The bytes that end a piece of a text: an enum, so that cursors over any of them are of one type.
@@ -35,6 +35,16 @@ impl Separators {
         match text.iter().position(|&byte| self.has(byte)) {
             Some(end) => (&text[..end], &text[end + 1..]),
             None => (text, &[]),
+        }
+    }
+
+    // What follows the separators at the front, which are passed in one go.
+    fn skip(self, text: &[u8]) -> &[u8]
+        ensures { result.now ≡ drop (position_or_len (λ b. not (separates self b)) text.now) text.now }
+    {
+        match text.iter().position(|&byte| !self.has(byte)) {
+            Some(start) => &text[start..],
+            None => &[],
         }
     }
 }
@@ -70,6 +80,16 @@ impl<'a> Iterator for Pieces<'a> {
         let (piece, rest) = self.separators.split_once(self.rest);
         self.rest = rest;
         Some(piece)
+    }
+}
+
+impl<'a> Pieces<'a> {
+    // The next piece that is not empty: the one behind the separators at the front, which are passed in one go.
+    fn next_word(&mut self) -> Option<&'a [u8]>
+        ensures { YieldsFirstRef words_left self.old result self.new }
+    {
+        self.rest = self.separators.skip(self.rest);
+        self.next()
     }
 }
 
@@ -118,7 +138,7 @@ impl<'a> Iterator for Cursor<'a> {
 
     // The next word, which is then behind the cursor.
     fn next(&mut self) -> Option<&'a [u8]> {
-        self.pieces.find(|piece| !piece.is_empty())
+        self.pieces.next_word()
     }
 }
 

@@ -14,7 +14,7 @@ use std::alloc::{AllocError, Global};
 pub mod answer;
 pub mod command;
 pub mod interpreter;
-mod marks;
+pub mod marks;
 mod show;
 pub mod texts;
 

@@ -2,12 +2,12 @@
 ghost use Rattle.std.specs.Prelude.{◌≡◌, ◌≤◌};
 
 use crate::Instruction;
-use arrayvec::ArrayVec;
+use copy_vec::CopyVec;
 
 // Up to 8 instructions. In both sides `Input(k)` is the k-th variable and `Record(j)` the side's own j-th instruction, from 1.
-pub type Side = ArrayVec<Instruction, 8>;
+pub type Side = CopyVec<Instruction, 8>;
 
-#[derive(Drop)]
+#[derive(Clone, Copy)]
 pub struct Rule {
     variables: u8,
     source: Side,

@@ -1,6 +1,6 @@
 // A body run one instruction after the other.
-ghost use Rattle.std.specs.Prelude.{◌≡◌, ◌<◌, length, OnErr};
-ghost use Rattle.semantics.specs.Programs.{head, nothing_yet, tail};
+ghost use Rattle.std.specs.Prelude.{◌≡◌, ◌<◌, length, OnErr, OnOk};
+ghost use Rattle.semantics.specs.Programs.{head, left, nothing_yet, tail};
 ghost use Rattle.semantics.specs.Values.{env};
 ghost use Rattle.semantics.specs.Runs.{RunsOn};
 
@@ -48,6 +48,7 @@ impl<'a, D: Domain, const N: usize> Run<'a, D, N> {
     pub fn take(&mut self, at: u8, instruction: Instruction) -> Result<(), Trapped>
         requires { at < N }
         ensures value { RunsOn (D.Domain.model self.old.domain.now) self.old.inputs.now (record { at = at; what = instruction }) (env self.old.values) self.old.choices.now (env self.new.values) self.new.choices.now result }
+        ensures left { OnOk result (self.new.choices.now ≡ left instruction self.old.choices.now) }
         ensures domain { self.new.domain.now ≡ self.old.domain.now }
         ensures inputs { self.new.inputs.now ≡ self.old.inputs.now }
         ensures trapped { OnErr result (self.new ≡ self.old) }

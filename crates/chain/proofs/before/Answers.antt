@@ -4,6 +4,7 @@ use Rattle.std.specs.List.{last_or}
 use Rattle.std.proofs.lemmas.Iterator.{YieldsList-from_map}
 use Rattle.std.proofs.lemmas.Iterator.Consumers.{YieldsList-from_first, YieldsList-at}
 use Rattle.std.proofs.lemmas.Iterator.Search.{YieldsList-from_take_while}
+use Rattle.chain.specs.Links.{links_left}
 use Rattle.chain.specs.Records.{records_at}
 use Rattle.chain.proofs.Walks.{walks}
 use Rattle.chain.proofs.Steps.{numbers}
@@ -17,7 +18,7 @@ returns g c ks h =
     let last = last_from_yields_list _ c.last.ensures.ran
     (YieldsList-from_take_while _ test
     (YieldsList-at c.take_while.ensures.source (YieldsList-from_map _ (λ p. p.0)
-    (YieldsList-at c.map.ensures.source (YieldsList-from_first (λ x. (x.0, x.1.now)) (λ l. l) (records_at rs ks) (c.iter.ensures ∙ ap (records_at rs) (walks _ _ ks h))))
+    (YieldsList-at c.map.ensures.source (YieldsList-from_first (λ x. (x.0, x.1.now)) links_left (records_at rs ks) (c.iter.ensures ∙ ap (records_at rs) (walks _ _ ks h))))
     c.map.ensures.closure (λ x r q k. search rules)))
     c.take_while.ensures.closure c.take_while.ensures.done (λ x b q k. search (rules, tests)))
     in

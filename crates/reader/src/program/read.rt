@@ -9,6 +9,7 @@ ghost use Rattle.reader.specs.declared.program.Section.TheVariants.{Body};
 ghost use Rattle.reader.specs.Tokens.{Spells, Forms};
 ghost use Rattle.reader.specs.Inputs.{inputs_of, tabled};
 ghost use Rattle.reader.specs.ReadFaults.{left_at, OnLine};
+ghost use Rattle.reader.specs.NameTables.{names_in};
 ghost use Rattle.reader.specs.Readings.{reading_of};
 ghost use Rattle.reader.specs.Programs.{read_of};
 
@@ -20,13 +21,13 @@ use crate::program::{ProgramText, Reading, Section};
 use crate::scope::Scope;
 use crate::token::name_of;
 use crate::written::Written;
-use arrayvec::ArrayVec;
+use copy_vec::CopyVec;
 use domain::Domain;
 use scan::{Cursor, lines};
 
 // Adds the names of an `in` line to a table: at most eight, and each once.
 fn read_inputs<'a>(names: &mut Names<'a>, words: Cursor<'a>) -> Result<(), TextFault>
-    ensures { tabled names.new result ≡ inputs_of names.old false (left words.entry) }
+    ensures { tabled (names_in names.new) result ≡ inputs_of (names_in names.old) false (left words.entry) }
 {
     let mut repeated = false;
     for word in words {
@@ -50,7 +51,7 @@ impl<'a> Reading<'a> {
         Reading {
             section: Section::Start,
             scope: Scope::new(),
-            body: ArrayVec::new(),
+            body: CopyVec::new(),
             result: 0,
         }
     }

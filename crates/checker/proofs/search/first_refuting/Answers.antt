@@ -1,3 +1,4 @@
+use Rattle.copy_vec.specs.Items.{items}
 use Rattle.std.proofs.Common.{◌≡◌, ◌<◌, Some, None, map, length, sym, subst, ap, ◌∙◌, arith}
 use Rattle.semantics.specs.Cases.{freezes_in, as_case, entries, refutes, first, first_refuting}
 use Rattle.semantics.specs.Held.{rule_of}
@@ -15,7 +16,7 @@ loop-next-init g c =
     let told = c.first.ensures in
     let some : 0 < m.size = omega (arith, (g.met.D.Domain.lawful k.domain.now).least_size) in
     let same_variables = told.variables ∙ c.variables.ensures in
-    let same_choices = told.choices ∙ c.count_freezes-2.ensures.value ∙ ap (λ s. freezes_in s.items) c.target.ensures in
+    let same_choices = told.choices ∙ c.count_freezes-2.ensures.value ∙ ap (λ s. freezes_in (items s)) c.target.ensures in
     let same_digits = told.digits ∙ ap (λ n. first_digits n k.least) c.variables.ensures in (
       (same_variables, same_choices),
       ap (λ l. first (refutes m r) (map (as_case r) l)) (starts m k.size k.least r.variables (freezes_in r.target) c.first.result some k.known same_variables same_choices same_digits),

@@ -1,3 +1,4 @@
+use Rattle.copy_vec.specs.Items.{items}
 use Rattle.std.proofs.Common.{◌≡◌, ◌<◌, length, replicate, refl, sym, subst, ap, ◌∙◌, arith}
 use Rattle.semantics.specs.Programs.{outcome}
 use Rattle.semantics.specs.Rules.{side}
@@ -12,14 +13,14 @@ loop-next-init g c =
     let m = g.D.Domain.model k.domain.now in
     let cs = c.args.choices in
     let some : 0 < m.size = omega (arith, (g.met.D.Domain.lawful k.domain.now).least_size) in
-    ((c.requires.alone, refl), ap (none (allows m c.args.ours c.args.source.now.items c.args.variables.now)) (starts m k.size k.least 0 cs.choice_count cs some k.known c.requires.alone refl c.requires.digits))
+    ((c.requires.alone, refl), ap (none (allows m c.args.ours (items c.args.source.now) c.args.variables.now)) (starts m k.size k.least 0 cs.choice_count cs some k.known c.requires.alone refl c.requires.digits))
 
 pub returns-then-outcome_refines : goal.returns-then-outcome_refines
 returns-then-outcome_refines g c =
     let m = g.D.Domain.model c.args.codes.now.domain.now in
     let f = c.args.choices.choice_count in
     let vars = c.args.variables.now in
-    let source = c.args.source.now.items in
+    let source = (items c.args.source.now) in
     let t = allows m c.args.ours source vars in
     let inv = subst (λ o. Shaped 0 f o × (none t (upcoming (replicate f (settled_codes m)) o) ≡ none t (tuples (replicate f (settled_codes m))))) c.in-Some.is c.loop-next.invariant in
     matched m c.args.ours source vars f c.in-Some.choices inv.0.0 inv.0.1 _ inv.1
@@ -31,7 +32,7 @@ pub returns : goal.returns
 returns g c =
     let m = g.D.Domain.model c.args.codes.now.domain.now in
     let f = c.args.choices.choice_count in
-    let t = allows m c.args.ours c.args.source.now.items c.args.variables.now in
+    let t = allows m c.args.ours (items c.args.source.now) c.args.variables.now in
     subst (λ o. none t (upcoming (replicate f (settled_codes m)) o) ≡ none t (tuples (replicate f (settled_codes m)))) c.in_default.is c.loop-next.invariant.1
 
 pub loop-next-preserved : goal.loop-next-preserved
@@ -39,7 +40,7 @@ loop-next-preserved g c =
     let m = g.D.Domain.model c.args.codes.now.domain.now in
     let f = c.args.choices.choice_count in
     let vars = c.args.variables.now in
-    let source = c.args.source.now.items in
+    let source = (items c.args.source.now) in
     let t = allows m c.args.ours source vars in
     let inv = subst (λ o. Shaped 0 f o × (none t (upcoming (replicate f (settled_codes m)) o) ≡ none t (tuples (replicate f (settled_codes m))))) c.in-Some.is c.loop-next.invariant in (
       stays_shaped m 0 f c.in-Some.choices inv.0.0 inv.0.1 c.next-next.result c.next-next.ensures,

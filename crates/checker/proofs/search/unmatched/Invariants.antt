@@ -1,3 +1,4 @@
+use Rattle.copy_vec.specs.Items.{items}
 use Rattle.std.proofs.Common.{◌≡◌, length, replicate}
 use Rattle.semantics.specs.Cases.{tuples, settled_codes, none}
 use Rattle.checker.specs.Shown.{allows}
@@ -10,7 +11,7 @@ invariant-loop-next g l =
     let m = g.D.Domain.model l.codes.domain.now in
     let f = l.fn.choices.choice_count in
     let ds = replicate f (settled_codes m) in
-    let t = allows m l.ours l.source.items l.variables in
+    let t = allows m l.ours (items l.source) l.variables in
     Shaped 0 f l.next × (none t (upcoming ds l.next) ≡ none t (tuples ds))
 
 abbrev pub decreases-loop-next : goal.decreases-loop-next

@@ -1,4 +1,4 @@
-use Rattle.std.proofs.Common.{◌≡◌, Some, rules}
+use Rattle.std.proofs.Common.{◌≡◌, rules}
 use Rattle.calls.specs.Bench.{Call}
 use Rattle.calls.specs.Histories.{next}
 use Rattle.calls.proofs.OneCall.{promised}
@@ -15,7 +15,4 @@ returns-in_err-program-clause-promise g c =
 pub returns-clause-promise : goal.returns-clause-promise
 returns-clause-promise g c =
     let b = c.args.self.now in
-    let m = g.D.Domain.model b.domain in
-    let new = state {D = g.row.D.Denot} (record { domain = b.domain; program = Some c.load.new.self }) in
-    let after : new ≡ next m (state b) (Call.load c.args.text.now) = search rules in
-    promised m (g.met.D.Domain.lawful b.domain) (state b) (Call.load c.args.text.now) new after
+    promised (g.D.Domain.model b.domain) (g.met.D.Domain.lawful b.domain) (state b) (Call.load c.args.text.now) _ (search rules)

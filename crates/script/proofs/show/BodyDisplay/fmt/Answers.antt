@@ -1,10 +1,11 @@
 use Rattle.std.proofs.Common.{[], ◌++◌, append_assoc, sym, ap, ◌∙◌, rules}
 use Rattle.std.proofs.Output.{has_written_append}
+use Rattle.program.specs.Windows.{shown}
 use Rattle.script.specs.Shows.{placed_text, body_text}
 use Rattle.script.proofs.show.BodyDisplay.fmt.Goals as goal
 
 pub loop-at-init : goal.loop-at-init
-loop-at-init g c = λ plain. ([], search rules, ap body_text (c.into_iter-at-iterator.ensures.into_iter_gives ∙ c.window-at-items.ensures))
+loop-at-init g c = λ plain. ([], search rules, ap body_text (ap shown c.into_iter-at-iterator.ensures.into_iter_gives ∙ c.window-at-items.ensures))
 
 pub loop-at-preserved : goal.loop-at-preserved
 loop-at-preserved g c = λ plain.

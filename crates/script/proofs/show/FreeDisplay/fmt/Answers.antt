@@ -1,11 +1,12 @@
 use Rattle.std.proofs.Common.{[], ◌++◌, append_assoc, sym, codes, decimal, ap, ◌∙◌, rules}
 use Rattle.std.proofs.Output.{has_written_append}
 use Rattle.semantics.specs.Programs.{records}
+use Rattle.program.specs.Windows.{shown}
 use Rattle.script.specs.Answers.{numbers_text}
 use Rattle.script.proofs.show.FreeDisplay.fmt.Goals as goal
 
 pub loop-at-init : goal.loop-at-init
-loop-at-init g c = λ plain. ([], search rules, ap (λ xs. numbers_text (records xs)) c.into_iter-at-iterator.ensures.into_iter_gives ∙ ap numbers_text c.free_window-at-items.ensures)
+loop-at-init g c = λ plain. ([], search rules, ap (λ w. numbers_text (records (shown w))) c.into_iter-at-iterator.ensures.into_iter_gives ∙ ap numbers_text c.free_window-at-items.ensures)
 
 pub loop-at-preserved : goal.loop-at-preserved
 loop-at-preserved g c = λ plain.
